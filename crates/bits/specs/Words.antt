@@ -1,0 +1,15 @@
+-- Bits and fields of a number, in plain arithmetic, and what a mask keeps of it.
+use Prim.Native.Nat.{ℕ, _/_, _%_, _^_}
+use lib.Bits.{bitAnd}
+
+-- bit n of x: 0 or 1
+abbrev pub bitAt : ℕ → ℕ → ℕ
+bitAt x n = x / 2 ^ n % 2
+
+-- the k bits of x from bit n up
+abbrev pub fieldAt : ℕ → ℕ → ℕ → ℕ
+fieldAt x n k = x / 2 ^ n % 2 ^ k
+
+-- the bits of x that are also in m: Rust's `x & m`. Bit by bit it is the law `bit-keep`
+unfoldable pub keep : ℕ → ℕ → ℕ
+keep m x = bitAnd x m

@@ -1,0 +1,54 @@
+-- How the code decides: by the opcode, or the quadrant of a 16-bit instruction, and then by the fields. It is the table
+-- sorted otherwise, as proofs/Sorted.antt shows. Nothing outside this crate cites it.
+use Prim.Native.Nat.{ℕ}
+use mathlib.Core.Bool.{Bool}
+use lib.Dec.{eqb}
+use Rattle.bits.specs.Choice.{if_then_else_}
+use Rattle.classifier.specs.Transfers.{link}
+use Rattle.classifier.specs.declared.Transfer.{Transfer}
+use Rattle.classifier.specs.declared.Transfer.the-variants.{None, Branch, IndirectCall, DirectCall, IndirectJump, DirectJump, CoroutineSwap, FunctionReturn, OtherIndirectJump, OtherDirectJump}
+
+-- the branch opcode, by funct3: BEQ, BNE, BLT, BGE, BLTU and BGEU
+unfoldable pub branchBy : ℕ → Transfer
+branchBy f =
+    if eqb f 0 then Branch
+    else (if eqb f 1 then Branch
+    else (if eqb f 4 then Branch
+    else (if eqb f 5 then Branch
+    else (if eqb f 6 then Branch
+    else (if eqb f 7 then Branch
+    else None)))))
+
+-- a jump by register, by rd and rs1
+unfoldable pub indirectBy : ℕ → ℕ → Transfer
+indirectBy d s =
+    if link d
+    then (if link s then (if eqb d s then IndirectCall else CoroutineSwap) else IndirectCall)
+    else (if link s then FunctionReturn else (if eqb d 0 then IndirectJump else OtherIndirectJump))
+
+-- a jump by offset, by rd
+unfoldable pub directBy : ℕ → Transfer
+directBy d = if link d then DirectCall else (if eqb d 0 then DirectJump else OtherDirectJump)
+
+-- JALR's opcode, by funct3, rd and rs1: funct3 not 0 is reserved
+unfoldable pub jalrBy : ℕ → ℕ → ℕ → Transfer
+jalrBy f d s = if eqb f 0 then indirectBy d s else None
+
+-- a 32-bit instruction, by opcode, funct3, rd and rs1
+unfoldable pub wideBy : ℕ → ℕ → ℕ → ℕ → Transfer
+wideBy op f d s =
+    if eqb op 0x63 then branchBy f
+    else (if eqb op 0x67 then jalrBy f d s
+    else (if eqb op 0x6F then directBy d else None))
+
+-- quadrant 1, by funct3: C.J, which is JAL with rd x0, C.BEQZ and C.BNEZ
+unfoldable pub quadrant1By : ℕ → Transfer
+quadrant1By f = if eqb f 5 then directBy 0 else (if eqb f 6 then Branch else (if eqb f 7 then Branch else None))
+
+-- C.JR, which is JALR with rd x0, and C.JALR, with rd x1: by funct4 and rs1
+unfoldable pub registerJumpBy : ℕ → ℕ → Transfer
+registerJumpBy f s = if eqb f 8 then indirectBy 0 s else (if eqb f 9 then indirectBy 1 s else None)
+
+-- quadrant 2, by funct4, rs1 and rs2
+unfoldable pub quadrant2By : ℕ → ℕ → ℕ → Transfer
+quadrant2By f s t = if eqb s 0 then None else (if eqb t 0 then registerJumpBy f s else None)

@@ -1,0 +1,175 @@
+// The word classifier: which control transfer an instruction word is (docs/RULES.md, T1 to T13).
+ghost use mathlib.Core.Path.{_≡_};
+ghost use Rattle.classifier.specs.Transfers.{transferOf, typeOf};
+ghost use Rattle.classifier.specs.Transfers.{link as Transfers·link};
+ghost use Rattle.classifier.specs.Decision.{branchBy, jalrBy, indirectBy, directBy, wideBy, quadrant1By, quadrant2By, registerJumpBy};
+
+pub enum Transfer {
+    None,
+    Branch,
+    IndirectCall,
+    DirectCall,
+    IndirectJump,
+    DirectJump,
+    CoroutineSwap,
+    FunctionReturn,
+    OtherIndirectJump,
+    OtherDirectJump,
+}
+
+// Whether r is a link register.
+fn link(r: u32) -> bool
+    ensures { λ b. ⌜ b ≡ Transfers·link r ⌝ }
+{
+    r == 1 || r == 5
+}
+
+// The branch opcode. funct3 2 and 3 are reserved.
+fn branch(funct3: u32) -> Transfer
+    ensures { λ t. ⌜ t ≡ branchBy funct3 ⌝ }
+{
+    match funct3 {
+        0 => Transfer::Branch, // BEQ
+        1 => Transfer::Branch, // BNE
+        4 => Transfer::Branch, // BLT
+        5 => Transfer::Branch, // BGE
+        6 => Transfer::Branch, // BLTU
+        7 => Transfer::Branch, // BGEU
+        _ => Transfer::None,
+    }
+}
+
+// JALR's opcode: funct3 not 0 is reserved.
+fn jalr(funct3: u32, rd: u32, rs1: u32) -> Transfer
+    ensures { λ t. ⌜ t ≡ jalrBy funct3 rd rs1 ⌝ }
+{
+    if funct3 == 0 {
+        indirect(rd, rs1)
+    } else {
+        Transfer::None
+    }
+}
+
+// A jump by register, by its two registers.
+fn indirect(rd: u32, rs1: u32) -> Transfer
+    ensures { λ t. ⌜ t ≡ indirectBy rd rs1 ⌝ }
+{
+    if link(rd) {
+        if link(rs1) {
+            if rd == rs1 {
+                Transfer::IndirectCall
+            } else {
+                Transfer::CoroutineSwap
+            }
+        } else {
+            Transfer::IndirectCall
+        }
+    } else if link(rs1) {
+        Transfer::FunctionReturn
+    } else if rd == 0 {
+        Transfer::IndirectJump
+    } else {
+        Transfer::OtherIndirectJump
+    }
+}
+
+// A jump by offset, by its register.
+fn direct(rd: u32) -> Transfer
+    ensures { λ t. ⌜ t ≡ directBy rd ⌝ }
+{
+    if link(rd) {
+        Transfer::DirectCall
+    } else if rd == 0 {
+        Transfer::DirectJump
+    } else {
+        Transfer::OtherDirectJump
+    }
+}
+
+// A 32-bit instruction.
+fn wide(opcode: u32, funct3: u32, rd: u32, rs1: u32) -> Transfer
+    ensures { λ t. ⌜ t ≡ wideBy opcode funct3 rd rs1 ⌝ }
+{
+    match opcode {
+        0x63 => branch(funct3),
+        0x67 => jalr(funct3, rd, rs1),
+        0x6F => direct(rd),
+        _ => Transfer::None,
+    }
+}
+
+// C.J, C.BEQZ and C.BNEZ.
+fn quadrant1(funct3: u32) -> Transfer
+    ensures { λ t. ⌜ t ≡ quadrant1By funct3 ⌝ }
+{
+    match funct3 {
+        5 => direct(0),
+        6 => Transfer::Branch,
+        7 => Transfer::Branch,
+        _ => Transfer::None,
+    }
+}
+
+// C.JR, which is JALR with rd x0, and C.JALR, with rd x1.
+fn register_jump(funct4: u32, rs1: u32) -> Transfer
+    ensures { λ t. ⌜ t ≡ registerJumpBy funct4 rs1 ⌝ }
+{
+    match funct4 {
+        8 => indirect(0, rs1),
+        9 => indirect(1, rs1),
+        _ => Transfer::None,
+    }
+}
+
+// With rs1 x0 the codes of C.JR and C.JALR are reserved and C.EBREAK, with rs2 not x0 C.MV and C.ADD.
+fn quadrant2(funct4: u32, rs1: u32, rs2: u32) -> Transfer
+    ensures { λ t. ⌜ t ≡ quadrant2By funct4 rs1 rs2 ⌝ }
+{
+    if rs1 == 0 {
+        Transfer::None
+    } else if rs2 == 0 {
+        register_jump(funct4, rs1)
+    } else {
+        Transfer::None
+    }
+}
+
+// The transfer that a word is.
+pub fn classify(word: u32) -> Transfer
+    ensures { λ t. ⌜ t ≡ transferOf word ⌝ }
+{
+    let op = bits::field32(word, 0, 2);
+    match op {
+        1 => quadrant1(bits::field32(word, 13, 3)),
+        2 => quadrant2(
+            bits::field32(word, 12, 4),
+            bits::field32(word, 7, 5),
+            bits::field32(word, 2, 5),
+        ),
+        3 => wide(
+            bits::field32(word, 0, 7),
+            bits::field32(word, 12, 3),
+            bits::field32(word, 7, 5),
+            bits::field32(word, 15, 5),
+        ),
+        _ => Transfer::None,
+    }
+}
+
+// The number of a transfer's type; a branch goes by whether it is taken, and none is 0.
+pub fn type_number(t: Transfer, taken: bool) -> u8
+    ensures { λ r. ⌜ r ≡ typeOf t taken ⌝ }
+{
+    match t {
+        Transfer::None => 0,
+        Transfer::Branch => if taken { 5 } else { 4 },
+        Transfer::IndirectCall => 8,
+        Transfer::DirectCall => 9,
+        Transfer::IndirectJump => 10,
+        Transfer::DirectJump => 11,
+        Transfer::CoroutineSwap => 12,
+        Transfer::FunctionReturn => 13,
+        Transfer::OtherIndirectJump => 14,
+        Transfer::OtherDirectJump => 15,
+    }
+}

@@ -1,0 +1,180 @@
+//! The type of a retired instruction word, found in a list of masks and patterns.
+
+const NONE: u8 = 0;
+const NOT_TAKEN_BRANCH: u8 = 4;
+const TAKEN_BRANCH: u8 = 5;
+const INDIRECT_CALL: u8 = 8;
+const DIRECT_CALL: u8 = 9;
+const INDIRECT_JUMP: u8 = 10;
+const DIRECT_JUMP: u8 = 11;
+const SWAP: u8 = 12;
+const RETURN: u8 = 13;
+const OTHER_INDIRECT_JUMP: u8 = 14;
+const OTHER_DIRECT_JUMP: u8 = 15;
+
+// The fields of 32-bit words.
+const OPCODE: u32 = 0x7f;
+const RD: u32 = 0x1f << 7;
+const FUNCT3: u32 = 0x7 << 12;
+const RS1: u32 = 0x1f << 15;
+
+const fn rd(register: u32) -> u32 {
+    register << 7
+}
+
+const fn funct3(code: u32) -> u32 {
+    code << 12
+}
+
+const fn rs1(register: u32) -> u32 {
+    register << 15
+}
+
+const JAL: u32 = 0x6f;
+const JALR: u32 = 0x67 | funct3(0);
+const BRANCH: u32 = 0x63;
+
+/// The bits that tell JALR from all other 32-bit words.
+const IS_JALR: u32 = OPCODE | FUNCT3;
+
+// The fields of compressed words. Their rs1 lies where 32-bit words have rd.
+const QUADRANT: u32 = 0x3;
+const C_RS2: u32 = 0x1f << 2;
+const C_RS1: u32 = 0x1f << 7;
+const C_FUNCT4: u32 = 0xf << 12;
+const C_FUNCT3: u32 = 0x7 << 13;
+
+const fn c_rs1(register: u32) -> u32 {
+    register << 7
+}
+
+const C_JR: u32 = 0b1000 << 12 | 0b10;
+const C_JALR: u32 = 0b1001 << 12 | 0b10;
+const C_J: u32 = 0b101 << 13 | 0b01;
+const C_BEQZ: u32 = 0b110 << 13 | 0b01;
+const C_BNEZ: u32 = 0b111 << 13 | 0b01;
+
+/// The bits that tell C.JR and C.JALR from all others; with rs2 not 0 they are C.MV and C.ADD.
+const IS_C_REGISTER_JUMP: u32 = C_FUNCT4 | C_RS2 | QUADRANT;
+
+/// The bits that tell C.J, C.BEQZ and C.BNEZ from all others.
+const IS_C_OFFSET_JUMP: u32 = C_FUNCT3 | QUADRANT;
+
+/// The words that equal `pattern` in the bits of `mask` have the type `number`.
+struct Rule {
+    mask: u32,
+    pattern: u32,
+    number: u8,
+}
+
+const fn rule(mask: u32, pattern: u32, number: u8) -> Rule {
+    Rule {
+        mask,
+        pattern,
+        number,
+    }
+}
+
+/// 32-bit words. The first rule that fits decides, so "other" registers need no rule of their own.
+const RULES: &[Rule] = &[
+    // JALR x1,x5 and JALR x5,x1; all other JALR with link rd are calls.
+    rule(IS_JALR | RD | RS1, JALR | rd(1) | rs1(5), SWAP),
+    rule(IS_JALR | RD | RS1, JALR | rd(5) | rs1(1), SWAP),
+    rule(IS_JALR | RD, JALR | rd(1), INDIRECT_CALL),
+    rule(IS_JALR | RD, JALR | rd(5), INDIRECT_CALL),
+    // From here on rd is not link: a link base returns, then only rd counts.
+    rule(IS_JALR | RS1, JALR | rs1(1), RETURN),
+    rule(IS_JALR | RS1, JALR | rs1(5), RETURN),
+    rule(IS_JALR | RD, JALR | rd(0), INDIRECT_JUMP),
+    rule(IS_JALR, JALR, OTHER_INDIRECT_JUMP),
+    // JAL
+    rule(OPCODE | RD, JAL | rd(1), DIRECT_CALL),
+    rule(OPCODE | RD, JAL | rd(5), DIRECT_CALL),
+    rule(OPCODE | RD, JAL | rd(0), DIRECT_JUMP),
+    rule(OPCODE, JAL, OTHER_DIRECT_JUMP),
+    // BEQ and BNE have funct3 00x; BLT, BGE, BLTU and BGEU have 1xx; 01x is reserved.
+    rule(OPCODE | funct3(0b110), BRANCH, TAKEN_BRANCH),
+    rule(OPCODE | funct3(0b100), BRANCH | funct3(0b100), TAKEN_BRANCH),
+];
+
+/// Compressed words. No mask reaches into the upper half.
+const COMPRESSED_RULES: &[Rule] = &[
+    // C.JR x0 is reserved, and the code of C.JALR x0 is C.EBREAK.
+    rule(IS_C_REGISTER_JUMP | C_RS1, C_JR | c_rs1(0), NONE),
+    rule(IS_C_REGISTER_JUMP | C_RS1, C_JALR | c_rs1(0), NONE),
+    // C.JR
+    rule(IS_C_REGISTER_JUMP | C_RS1, C_JR | c_rs1(1), RETURN),
+    rule(IS_C_REGISTER_JUMP | C_RS1, C_JR | c_rs1(5), RETURN),
+    rule(IS_C_REGISTER_JUMP, C_JR, INDIRECT_JUMP),
+    // C.JALR, whose rd is always x1
+    rule(IS_C_REGISTER_JUMP | C_RS1, C_JALR | c_rs1(5), SWAP),
+    rule(IS_C_REGISTER_JUMP, C_JALR, INDIRECT_CALL),
+    // Jumps and branches with an offset
+    rule(IS_C_OFFSET_JUMP, C_J, DIRECT_JUMP),
+    rule(IS_C_OFFSET_JUMP, C_BEQZ, TAKEN_BRANCH),
+    rule(IS_C_OFFSET_JUMP, C_BNEZ, TAKEN_BRANCH),
+];
+
+/// The number of the word's transfer type, 0 if it has none; `taken` matters to branches only.
+pub fn transfer_type(word: u32, taken: bool) -> u8 {
+    let rules = if word & QUADRANT == 0b11 {
+        RULES
+    } else {
+        COMPRESSED_RULES
+    };
+    let number = rules
+        .iter()
+        .find(|rule| word & rule.mask == rule.pattern)
+        .map_or(NONE, |rule| rule.number);
+    if number == TAKEN_BRANCH && !taken {
+        NOT_TAKEN_BRANCH
+    } else {
+        number
+    }
+}
+
+/// The name of a number that `transfer_type` gives. Panics for all others.
+pub fn name(number: u8) -> &'static str {
+    match number {
+        NONE => "none",
+        NOT_TAKEN_BRANCH | TAKEN_BRANCH => "branch",
+        INDIRECT_CALL => "indirect call",
+        DIRECT_CALL => "direct call",
+        INDIRECT_JUMP => "indirect jump",
+        DIRECT_JUMP => "direct jump",
+        SWAP => "co-routine swap",
+        RETURN => "function return",
+        OTHER_INDIRECT_JUMP => "other indirect jump",
+        OTHER_DIRECT_JUMP => "other direct jump",
+        _ => panic!("no word has the type {number}"),
+    }
+}
+
+#[cfg(test)]
+mod tests {
+    use super::*;
+
+    #[test]
+    fn patterns_lie_in_their_masks() {
+        for rule in RULES.iter().chain(COMPRESSED_RULES) {
+            assert_eq!(rule.pattern & !rule.mask, 0, "pattern {:#x}", rule.pattern);
+        }
+    }
+
+    /// With ones in all bits outside its mask, a word names no register of an earlier rule.
+    #[test]
+    fn no_rule_is_hidden_by_an_earlier_one() {
+        for rules in [RULES, COMPRESSED_RULES] {
+            for (index, rule) in rules.iter().enumerate() {
+                let word = rule.pattern | !rule.mask;
+                let first = rules.iter().position(|r| word & r.mask == r.pattern);
+                assert_eq!(first, Some(index), "pattern {:#x}", rule.pattern);
+            }
+        }
+    }
+
+    #[test]
+    fn compressed_masks_stay_in_the_low_half() {
+        assert!(COMPRESSED_RULES.iter().all(|rule| rule.mask <= 0xffff));
+    }
+}

@@ -1,0 +1,233 @@
+//! The expected output of the programs below crates/, and the input they are fed with.
+
+use std::fs;
+use std::iter::successors;
+use std::path::{Path, PathBuf};
+
+use crate::classifier::{name, transfer_type};
+use crate::digest::{digest, xorshift64, SEED};
+use crate::encode::{branch, c_jalr, c_jr, jal, jalr};
+
+/// The stored files: path from the repository's root, and contents.
+pub fn files() -> Vec<(&'static str, Vec<u8>)> {
+    let input = classify_input();
+    let output = classify(&input);
+    vec![
+        ("crates/classify/stdin", input),
+        ("crates/classify/stdout", output.into_bytes()),
+        (
+            "crates/classifier_sweep/stdout",
+            classifier_sweep().into_bytes(),
+        ),
+    ]
+}
+
+/// The folder that the paths of `files` start from.
+pub fn root() -> PathBuf {
+    Path::new(env!("CARGO_MANIFEST_DIR")).join("..")
+}
+
+/// Writes all files below `root`, into folders that must be there already.
+pub fn write_files(root: &Path) -> Result<(), String> {
+    for (path, contents) in files() {
+        let (folder, _) = path.rsplit_once('/').expect("a path with a folder");
+        if !root.join(folder).is_dir() {
+            return Err(format!("the folder {folder} is missing"));
+        }
+        fs::write(root.join(path), contents).map_err(|error| format!("{path}: {error}"))?;
+    }
+    Ok(())
+}
+
+/// What `classify` prints for these bytes, read as little-endian words.
+pub fn classify(input: &[u8]) -> String {
+    let (words, rest) = input.as_chunks();
+    let mut text: String = words
+        .iter()
+        .map(|bytes| classified(u32::from_le_bytes(*bytes)))
+        .collect();
+    if !rest.is_empty() {
+        text.push_str("incomplete word\n");
+    }
+    text
+}
+
+/// The line of one word, a branch as taken.
+fn classified(word: u32) -> String {
+    let number = transfer_type(word, true);
+    format!("{word:08x} {number} {}\n", name(number))
+}
+
+/// The bytes that `classify` is fed with: many words, and three bytes of a further one.
+pub fn classify_input() -> Vec<u8> {
+    sample_words()
+        .into_iter()
+        .cycle()
+        .take(16_400)
+        .flat_map(u32::to_le_bytes)
+        .chain([0x6f, 0x00, 0x00])
+        .collect()
+}
+
+/// The words of the bench table in docs/RULES.md.
+const BENCH_WORDS: [u32; 11] = [
+    0x000000ef, 0x00008067, 0x000280e7, 0x00009282, 0x00009082, 0x00008082, 0x00030067, 0x00038367,
+    0x0000036f, 0x00008367, 0x00009002,
+];
+
+/// x0, both link registers, their neighbours and the last one.
+const REGISTERS: [u32; 7] = [0, 1, 2, 4, 5, 6, 31];
+
+/// C.J, C.BEQZ and C.BNEZ with offset 0 and with all other bits set.
+const COMPRESSED_OFFSET_JUMPS: [u32; 6] = [0xa001, 0xbffd, 0xc001, 0xdffd, 0xe001, 0xfffd];
+
+/// C.J below upper halves that look like the start of JAL, like C.JR x1, and with the top bit set.
+const UPPER_HALVES: [u32; 4] = [0x006fa001, 0x8082a001, 0x8000a001, 0xffffa001];
+
+/// No transfers: C.JR x0, C.MV, C.ADD, the code of C.JAL on RV32, C.NOP, all zeros, all ones,
+/// NOP, AUIPC, LUI, ECALL, EBREAK, SRET, MRET, WFI.
+const OTHER_WORDS: [u32; 15] = [
+    0x00008002, 0x00008086, 0x00009086, 0x00002001, 0x00000001, 0x00000000, 0xffffffff, 0x00000013,
+    0x00000097, 0x000000b7, 0x00000073, 0x00100073, 0x10200073, 0x30200073, 0x10500073,
+];
+
+/// Distinct words of every type and of none.
+fn sample_words() -> Vec<u32> {
+    let mut words = BENCH_WORDS.to_vec();
+    for rd in REGISTERS {
+        words.extend(REGISTERS.map(|rs1| jalr(0x7ff0_0000, rs1, 0, rd)));
+        words.extend([jal(0x8000_0000, rd), jal(0x7fff_f000, rd)]);
+    }
+    for rs1 in REGISTERS {
+        words.extend([c_jr(0x5a5a_0000, rs1), c_jalr(0xa5a5_0000, rs1)]);
+    }
+    for funct3 in 0..8 {
+        words.extend([jalr(0x0040_0000, 5, funct3, 1), branch(0, funct3, 8)]);
+    }
+    words.extend(COMPRESSED_OFFSET_JUMPS);
+    words.extend(UPPER_HALVES);
+    words.extend(OTHER_WORDS);
+    words
+}
+
+/// What `classifier_sweep` prints: a block of lines for each group of words.
+pub fn classifier_sweep() -> String {
+    let mut text = String::new();
+    for upper in [0x0000, 0xffff, 0x0002, 0xa5a8] {
+        let words = (0..=0xffff).map(|low| upper << 16 | low);
+        text += &block(&format!("low halves under 0x{upper:04x}"), words);
+    }
+    let jalr_words = under_each_pattern(8192, |p, i| jalr(p, i / 32 % 32, i / 1024, i % 32));
+    let jal_words = under_each_pattern(32, jal);
+    let branch_words = under_each_pattern(256, |p, i| branch(p, i / 32, i % 32));
+    text += &block("jalr", jalr_words);
+    text += &block("jal", jal_words);
+    text += &block("branch", branch_words);
+    text += &block("random", random_words().take(100_000));
+    text
+}
+
+/// For each of some patterns in the bits that don't decide, the words of the indices below `count`.
+fn under_each_pattern(count: u32, word: fn(u32, u32) -> u32) -> impl Iterator<Item = u32> {
+    const PATTERNS: [u32; 6] = [
+        0x00000000, 0xffffffff, 0x5a5a5a5a, 0xa5a5a5a5, 0x12345678, 0x87654321,
+    ];
+    PATTERNS
+        .into_iter()
+        .flat_map(move |pattern| (0..count).map(move |index| word(pattern, index)))
+}
+
+/// The low halves of the pseudo-random numbers after the seed.
+fn random_words() -> impl Iterator<Item = u32> {
+    successors(Some(SEED), |x| Some(xorshift64(*x)))
+        .skip(1)
+        .map(|x| x as u32)
+}
+
+/// The types that words have, a branch as taken.
+const WORD_TYPES: [u8; 10] = [0, 5, 8, 9, 10, 11, 12, 13, 14, 15];
+
+/// How many words of each type there are, branches as taken, and the digest of words and types.
+fn block(title: &str, words: impl Iterator<Item = u32>) -> String {
+    let mut counts = [0; 16];
+    let mut sum = 0;
+    for word in words {
+        let number = transfer_type(word, true);
+        counts[usize::from(number)] += 1;
+        sum = digest(digest(sum, word.into()), number.into());
+    }
+    let total: u32 = counts.iter().sum();
+    let mut text = format!("{title}\n  words {total}\n");
+    for number in WORD_TYPES {
+        text += &format!("  type {number} {}\n", counts[usize::from(number)]);
+    }
+    text + &format!("  digest 0x{sum:016x}\n")
+}
+
+#[cfg(test)]
+mod tests {
+    use super::*;
+    use std::collections::HashSet;
+
+    #[test]
+    fn classify_prints_a_line_for_each_word_and_one_for_the_rest() {
+        let input = [0x63, 0, 0, 0, 0x82, 0x80, 0, 0, 0x6f];
+        let lines = "00000063 5 branch\n00008082 13 function return\nincomplete word\n";
+        assert_eq!(classify(&input), lines);
+        assert_eq!(classify(&input[..4]), "00000063 5 branch\n");
+        assert_eq!(classify(&[]), "");
+    }
+
+    #[test]
+    fn sample_words_are_distinct_and_of_every_type() {
+        let words = sample_words();
+        let distinct: HashSet<u32> = words.iter().copied().collect();
+        assert!(words.len() >= 60);
+        assert_eq!(distinct.len(), words.len());
+        let types: HashSet<u8> = words
+            .iter()
+            .map(|word| transfer_type(*word, true))
+            .collect();
+        assert_eq!(types, HashSet::from(WORD_TYPES));
+    }
+
+    #[test]
+    fn classify_input_ends_within_a_word() {
+        let input = classify_input();
+        assert_eq!(input.len(), 16_400 * 4 + 3);
+        assert_eq!(input[..4], 0x000000ef_u32.to_le_bytes());
+        assert_eq!(input[input.len() - 3..], [0x6f, 0, 0]);
+    }
+
+    /// The counts under one pattern are reckoned from the kinds of register: x0, two link registers
+    /// and 29 others. The types are those of `WORD_TYPES`, in that order.
+    #[test]
+    fn sweep_counts_jalr_jal_and_branch_words() {
+        let sweep = classifier_sweep();
+        let (reserved, call, other) = (7 * 32 * 32, 2 * 32 - 2, 29 * 30);
+        let jalr_counts = [reserved, 0, call, 0, 30, 0, 2, 30 * 2, other, 0];
+        assert_eq!(
+            counts_of(&sweep, "jalr"),
+            jalr_counts.map(|count| 6 * count)
+        );
+        let jal_counts = [0, 0, 0, 2, 0, 1, 0, 0, 0, 29];
+        assert_eq!(counts_of(&sweep, "jal"), jal_counts.map(|count| 6 * count));
+        let branch_counts = [2 * 32, 6 * 32, 0, 0, 0, 0, 0, 0, 0, 0];
+        assert_eq!(
+            counts_of(&sweep, "branch"),
+            branch_counts.map(|count| 6 * count)
+        );
+    }
+
+    /// The counts in the lines "  type T COUNT" of one block.
+    fn counts_of(sweep: &str, title: &str) -> Vec<u32> {
+        sweep
+            .lines()
+            .skip_while(|line| *line != title)
+            .filter_map(|line| line.strip_prefix("  type "))
+            .take(WORD_TYPES.len())
+            .map(|line| line.split_once(' ').expect("a type and a count").1)
+            .map(|count| count.parse().expect("a number"))
+            .collect()
+    }
+}
