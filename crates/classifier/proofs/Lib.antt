@@ -1,2 +1,4 @@
--- The table of transfer types sorted by opcode, and what those above the classifier rely on.
+-- The table of transfer types sorted by opcode, what those above the classifier rely on, and runs over slices.
 pub mod Sorted
+pub mod Promise
+pub mod Filled

@@ -1,3 +1,5 @@
 pub mod Instructions
 pub mod Transfers
+pub mod Promise
+pub mod Exports
 pub mod Decision

@@ -50,7 +50,7 @@ isOtherIndirectJump w = JALR w && not (link (rs1 w)) && not (eqb (rd w) 0) && no
 abbrev pub isOtherDirectJump : ℕ → Bool
 isOtherDirectJump w = JAL w && not (eqb (rd w) 0) && not (link (rd w))
 
--- what transfer a word is. No word is in two rows (Rows, in proofs/), so the order plays no part
+-- what transfer a word is; none where no row has it. No word is in two rows (`rows` of Promise), so the order plays no part
 unfoldable pub transferOf : ℕ → Transfer
 transferOf w =
     if isBranch w then Branch

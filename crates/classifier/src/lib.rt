@@ -1,4 +1,6 @@
 // The word classifier: which control transfer an instruction word is (docs/RULES.md, T1 to T13).
+pub mod exports;
+
 ghost use mathlib.Core.Path.{_≡_};
 ghost use Rattle.classifier.specs.Transfers.{transferOf, typeOf};
 ghost use Rattle.classifier.specs.Transfers.{link as Transfers·link};
