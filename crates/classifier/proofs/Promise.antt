@@ -46,23 +46,23 @@ module _ (w : ℕ) where
   low = w % 2 ^ 16
 
   op-low : C·op low ≡ C·op w
-  unfolding low C·op
+  unfolding low
   op-low = omega arith
 
   funct3-low : C·funct3 low ≡ C·funct3 w
-  unfolding low C·funct3
+  unfolding low
   funct3-low = omega arith
 
   funct4-low : C·funct4 low ≡ C·funct4 w
-  unfolding low C·funct4
+  unfolding low
   funct4-low = omega arith
 
   rs1-low : C·rs1 low ≡ C·rs1 w
-  unfolding low C·rs1
+  unfolding low
   rs1-low = omega arith
 
   rs2-low : C·rs2 low ≡ C·rs2 w
-  unfolding low C·rs2
+  unfolding low
   rs2-low = omega arith
 
   upper-half : is16 w ≡ true → transferOf w ≡ transferOf low

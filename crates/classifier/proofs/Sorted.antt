@@ -71,7 +71,6 @@ known n k = go (eqb n k) refl
 -- the opcode of a 16-bit instruction is none of ours, since each of those ends in 11
 module _ (w : ℕ) (narrow : C·op w ≡ 3 → ⊥) where
   no-opcode : (k : ℕ) → k % 4 ≡ 3 → eqb (opcode w) k ≡ false
-  unfolding C·op opcode
   no-opcode k e = ne-eqb (opcode w) k (λ p. narrow (omega arith))
 
   pub no-branch : eqb (opcode w) 0x63 ≡ false

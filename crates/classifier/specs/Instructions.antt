@@ -6,32 +6,32 @@ use lib.Dec.{eqb}
 use Rattle.bits.specs.Words.{fieldAt}
 
 -- fields of a 32-bit instruction: bits 6..0, 11..7, 14..12 and 19..15
-unfoldable pub opcode : ℕ → ℕ
+abbrev pub opcode : ℕ → ℕ
 opcode w = fieldAt w 0 7
 
-unfoldable pub rd : ℕ → ℕ
+abbrev pub rd : ℕ → ℕ
 rd w = fieldAt w 7 5
 
-unfoldable pub funct3 : ℕ → ℕ
+abbrev pub funct3 : ℕ → ℕ
 funct3 w = fieldAt w 12 3
 
-unfoldable pub rs1 : ℕ → ℕ
+abbrev pub rs1 : ℕ → ℕ
 rs1 w = fieldAt w 15 5
 
 -- fields of a 16-bit instruction: bits 1..0, 15..13, 15..12, 11..7 and 6..2
-unfoldable pub C·op : ℕ → ℕ
+abbrev pub C·op : ℕ → ℕ
 C·op w = fieldAt w 0 2
 
-unfoldable pub C·funct3 : ℕ → ℕ
+abbrev pub C·funct3 : ℕ → ℕ
 C·funct3 w = fieldAt w 13 3
 
-unfoldable pub C·funct4 : ℕ → ℕ
+abbrev pub C·funct4 : ℕ → ℕ
 C·funct4 w = fieldAt w 12 4
 
-unfoldable pub C·rs1 : ℕ → ℕ
+abbrev pub C·rs1 : ℕ → ℕ
 C·rs1 w = fieldAt w 7 5
 
-unfoldable pub C·rs2 : ℕ → ℕ
+abbrev pub C·rs2 : ℕ → ℕ
 C·rs2 w = fieldAt w 2 5
 
 -- whether the word is a 16-bit instruction

@@ -1,5 +1,6 @@
 pub mod Instructions
 pub mod Transfers
 pub mod Promise
+pub mod Vectors
 pub mod Exports
 pub mod Decision

@@ -1,5 +1,6 @@
 // The word classifier: which control transfer an instruction word is (docs/RULES.md, T1 to T13).
 pub mod exports;
+mod fields;
 
 ghost use mathlib.Core.Path.{_≡_};
 ghost use Rattle.classifier.specs.Transfers.{transferOf, typeOf};
@@ -140,19 +141,19 @@ fn quadrant2(funct4: u32, rs1: u32, rs2: u32) -> Transfer
 pub fn classify(word: u32) -> Transfer
     ensures { λ t. ⌜ t ≡ transferOf word ⌝ }
 {
-    let op = bits::field32(word, 0, 2);
+    let op = fields::c_op(word);
     match op {
-        1 => quadrant1(bits::field32(word, 13, 3)),
+        1 => quadrant1(fields::c_funct3(word)),
         2 => quadrant2(
-            bits::field32(word, 12, 4),
-            bits::field32(word, 7, 5),
-            bits::field32(word, 2, 5),
+            fields::c_funct4(word),
+            fields::c_rs1(word),
+            fields::c_rs2(word),
         ),
         3 => wide(
-            bits::field32(word, 0, 7),
-            bits::field32(word, 12, 3),
-            bits::field32(word, 7, 5),
-            bits::field32(word, 15, 5),
+            fields::opcode(word),
+            fields::funct3(word),
+            fields::rd(word),
+            fields::rs1(word),
         ),
         _ => Transfer::None,
     }

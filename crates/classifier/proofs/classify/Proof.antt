@@ -28,7 +28,6 @@ other-arm w op e a b d =
     transfer w None (in-quadrant0 w (λ n. d (e ∙ n)) (ne-eqb _ _ (λ n. a (e ∙ n))) (ne-eqb _ _ (λ n. b (e ∙ n))))
 
 pub classify-spec : {M : Type 1} → statement M
-unfolding opcode rd funct3 rs1 C·op C·funct3 C·funct4 C·rs1 C·rs2
 classify-spec =
     tie.close
     (tie.spec

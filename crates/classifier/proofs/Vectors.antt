@@ -1,0 +1,8 @@
+-- The published words have their types, by computation. Assumes nothing.
+use mathlib.Core.Path.{refl}
+use Rattle.classifier.specs.Transfers.{transferOf}
+use Rattle.classifier.specs.Vectors.{Vectors}
+
+pub vectors : Vectors
+unfolding transferOf
+vectors = (refl, refl, refl, refl, refl, refl, refl, refl, refl, refl, refl)
