@@ -1,0 +1,8 @@
+//! Links the archive of proved code that `make bench` builds first.
+
+fn main() {
+    let archives = concat!(env!("CARGO_MANIFEST_DIR"), "/../target/staticlib");
+    println!("cargo:rustc-link-search=native={archives}");
+    println!("cargo:rustc-link-lib=static=classifier");
+    println!("cargo:rerun-if-changed={archives}/libclassifier.a");
+}
