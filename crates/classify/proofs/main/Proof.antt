@@ -1,0 +1,30 @@
+-- `classify::main` is safe and ends. Assumes nothing.
+use mathlib.Core.Path.{_≡_}
+use lib.ListN.{length}
+use borrow.Author.Needs.{needs}
+use Rattle.classify.proofs.main.Statement.{statement}
+use Rattle.classify.proofs.main.Tie as tie
+
+abbrev Inv-loop : tie.InvT-loop
+Inv-loop input₀ out₀ blocks₀ input out blocks = (length input ≡ 65536) × (length out ≡ 65536)
+
+abbrev μ-loop : tie.MeasureT-loop
+μ-loop input₀ out₀ blocks₀ input out blocks = blocks
+
+pub main-spec : {M : Type 1} → statement M
+main-spec =
+    tie.close
+    (tie.spec
+    Inv-loop
+    μ-loop
+    (λ c κs. tt)
+    (λ c κs. tt)
+    (λ c. search needs)
+    (λ c. search needs)
+    (λ c. search needs)
+    (λ c κs. tt)
+    (λ c. search needs)
+    (λ c. search needs)
+    (λ c. search needs)
+    (λ c. search needs)
+    (λ c. search needs))
