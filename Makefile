@@ -1,20 +1,25 @@
-# What a person or a machine runs here. It needs the Rattle kit (rt), Rust (cargo, rustc), a C
-# compiler and make, and downloads nothing.
+# What people and machines run here. It needs the Rattle kit (rt), Rust (cargo, rustc) and make, for
+# the examples a C compiler too, and downloads nothing.
 CARGO = cargo
 CFLAGS ?= -O2 -Wall -Wextra
 STATICLIB = target/staticlib/libclassifier.a
 
-.PHONY: help test demo examples bench expected archive
+# what a command prints is shown only if it fails
+quietly = mkdir -p target && { $(1) >target/make.log 2>&1 || { cat target/make.log; exit 1; }; }
+
+.PHONY: help demo test examples bench every-word expected archive
 
 help: ## list the targets
-	@sed -n 's/^\([a-z]*\):.*## /\1\t/p' Makefile | expand -t 12
+	@sed -n 's/^\([a-z-]*\):.*## /\1\t/p' Makefile | expand -t 12
+
+demo: ## show the transfer types of a few words (proves first: about a minute)
+	@echo "Proving and building classify (about a minute, nothing if it is built already) ..."
+	@$(call quietly,rt check classify)
+	@sh examples/demo.sh target/bin/classify
 
 test: ## prove everything and run every test: the gate
 	@cd model && $(CARGO) test --release --offline
 	@rt ci
-
-archive:
-	@rt staticlib classifier
 
 examples: archive ## build and run the C and the Rust program of examples/
 	@mkdir -p target/examples
@@ -26,5 +31,11 @@ examples: archive ## build and run the C and the Rust program of examples/
 bench: archive ## time the proved code beside the model's
 	@cd bench && $(CARGO) run --release --offline --quiet
 
+every-word: archive ## compare with the model on all 2^32 words (about a minute)
+	@cd bench && $(CARGO) run --release --offline --quiet --bin every_word
+
 expected: ## write the programs' expected output anew, from the model
 	@cd model && $(CARGO) run --release --offline --quiet --bin expected -- --write
+
+archive:
+	@$(call quietly,rt staticlib classifier)

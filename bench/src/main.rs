@@ -1,5 +1,6 @@
 //! Times the proved classifier beside the model's, on the same words, in one run.
 
+use bench::classify_all;
 use model::classifier::transfer_type;
 use model::digest::{xorshift64, SEED};
 use std::hint::black_box;
@@ -8,23 +9,8 @@ use std::time::Instant;
 const WORDS: usize = 1_000_000;
 const ROUNDS: usize = 20;
 
-mod ffi {
-    extern "C" {
-        pub fn ctr_classify_all(
-            words: *const u32,
-            word_count: usize,
-            types: *mut u8,
-            type_count: usize,
-        ) -> usize;
-    }
-}
-
-fn ours(words: &[u32], types: &mut [u8]) -> usize {
-    // SAFETY: both slices are valid for their lengths, and `types` is borrowed by nobody else.
-    unsafe { ffi::ctr_classify_all(words.as_ptr(), words.len(), types.as_mut_ptr(), types.len()) }
-}
-
-fn rust(words: &[u32], types: &mut [u8]) -> usize {
+/// The same by the model.
+fn model_all(words: &[u32], types: &mut [u8]) -> usize {
     let count = words.len().min(types.len());
     for (word, place) in words.iter().zip(types.iter_mut()) {
         *place = transfer_type(*word, true);
@@ -74,8 +60,8 @@ fn best(classify: fn(&[u32], &mut [u8]) -> usize, words: &[u32], types: &mut [u8
 fn main() {
     let words = mixed_words();
     let (mut a, mut b) = (vec![0; WORDS], vec![0; WORDS]);
-    let ours_ns = best(ours, &words, &mut a);
-    let rust_ns = best(rust, &words, &mut b);
+    let ours_ns = best(classify_all, &words, &mut a);
+    let rust_ns = best(model_all, &words, &mut b);
     assert!(a == b, "the two classifiers differ");
     println!(
         "classifier: ours {ours_ns:.2} ns, rust {rust_ns:.2} ns, ratio {:.2}",

@@ -1,10 +1,10 @@
-//! The model's classifier against the bench table of docs/RULES.md, and against that paper's
+//! The model's classifier against the published words (docs/RULES.md, T14), and against the rules'
 //! prose written once more, as decisions on fields.
 
 use model::classifier::{name, transfer_type};
 
-/// The words of the bench table with their types.
-const BENCH: [(u32, u8); 11] = [
+/// The published words with their types.
+const PUBLISHED: [(u32, u8); 11] = [
     (0x000000ef, 9),
     (0x00008067, 13),
     (0x000280e7, 12),
@@ -78,8 +78,8 @@ fn count(words: impl Iterator<Item = u32>, number: u8) -> usize {
 }
 
 #[test]
-fn bench_words_have_their_types() {
-    for (word, number) in BENCH {
+fn published_words_have_their_types() {
+    for (word, number) in PUBLISHED {
         assert_eq!(transfer_type(word, true), number, "word {word:#010x}");
     }
 }
