@@ -1,10 +1,9 @@
 -- Fields of a word of any width, and what a mask does to a single bit, once for every mask and position. Assumes nothing.
-use mathlib.Core.Path.{_≡_, refl, ap, _∙_}
-use Prim.Native.Nat.{ℕ, zero, _+_, _-_, _*_, _/_, _%_, _^_, _≤_, _<_, min}
+use mathlib.Core.Path.{_≡_, _∙_}
+use Prim.Native.Nat.{ℕ, _-_, _*_, _/_, _%_, _^_, _≤_, _<_, min}
 use native.Mathlib.Nat.{mod-eq-of-lt, div-eq-of-lt, div-le-self}
 use native.Mathlib.Omega.{arith}
-use lib.Arith.{bin-ind}
-use lib.Bits.{bitAnd, and-step, and-shr, and-le-r, and-mask}
+use lib.Bits.{bitAnd, and-step, and-shr, and-mask}
 use lib.Pow.{pow-pos, pow-mono, pow-lt}
 use Rattle.bits.specs.Words.{bitAt, fieldAt, keep}
 

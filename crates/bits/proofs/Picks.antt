@@ -1,7 +1,7 @@
 -- Conditionals whose test is known: `search picks depth N` follows a function's branches through its definition. In each law `r` is
 -- what a call answered (`r ≡ b`, the callee's ensures) and which way the branch on it went (`r ≡ true`). Assumes nothing.
-use mathlib.Core.Path.{_≡_, refl, sym, ap, _∙_}
-use mathlib.Core.Bool.{Bool, true, false, not, _&&_, _||_}
+use mathlib.Core.Path.{_≡_}
+use mathlib.Core.Bool.{Bool, true, false, _&&_, _||_}
 use Prim.Native.Nat.{ℕ}
 use lib.Dec.{eqb}
 use borrow.Author.Tests.{eq-eqb, ne-eqb}

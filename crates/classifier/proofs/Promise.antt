@@ -1,12 +1,12 @@
 -- The classifier's promise holds. Assumes nothing.
 use mathlib.Core.Path.{_≡_, refl, sym, ap, _∙_}
 use mathlib.Core.Bool.{Bool, true, false, not, _||_}
-use mathlib.Core.Logic.{_⊎_, inl, inr}
+use mathlib.Core.Logic.{inl, inr}
 use Prim.Native.Nat.{ℕ, _%_, _^_}
 use native.Mathlib.Omega.{arith}
 use lib.Dec.{eqb}
 use borrow.Author.Tests.{eqb-false, not-true}
-use Rattle.classifier.specs.Instructions.{opcode, is16, C·op, C·funct3, C·funct4, C·rs1, C·rs2}
+use Rattle.classifier.specs.Instructions.{is16, C·op, C·funct3, C·funct4, C·rs1, C·rs2}
 use Rattle.classifier.specs.Transfers.{transferOf, typeOf}
 use Rattle.classifier.specs.Promise.{Promise, inRow, WordType}
 use Rattle.classifier.specs.declared.Transfer.{Transfer}

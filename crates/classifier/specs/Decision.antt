@@ -1,7 +1,6 @@
 -- How the code decides: by the opcode, or the quadrant of a 16-bit instruction, and then by the fields. It is the table
 -- sorted otherwise, as proofs/Sorted.antt shows. Nothing outside this crate cites it.
 use Prim.Native.Nat.{ℕ}
-use mathlib.Core.Bool.{Bool}
 use lib.Dec.{eqb}
 use Rattle.bits.specs.Choice.{if_then_else_}
 use Rattle.classifier.specs.Transfers.{link}

@@ -1,6 +1,7 @@
--- The transfer type of each word: a definition for each row of the table of transfer types (docs/RULES.md, T), in its order.
+-- The transfer type of each word: a definition for each row of the table of transfer types (docs/RULES.md, T4 to T12), in its
+-- order, but for type 12, which type 8 excepts.
 use Prim.Native.Nat.{ℕ}
-use mathlib.Core.Bool.{Bool, true, false, not, _&&_, _||_}
+use mathlib.Core.Bool.{Bool, not, _&&_, _||_}
 use lib.Dec.{eqb}
 use Rattle.bits.specs.Choice.{if_then_else_}
 use Rattle.classifier.specs.Instructions.{rd, rs1, C·rs1, BEQ, BNE, BLT, BGE, BLTU, BGEU, JALR, JAL, C·J, C·BEQZ, C·BNEZ, C·JR, C·JALR}

@@ -1,6 +1,6 @@
 -- `test_support::rotl5` meets its contract: the two parts have no bit in common, so joining them is their sum. Assumes nothing.
 use mathlib.Core.Path.{_≡_}
-use Prim.Native.Nat.{ℕ, _+_, _*_, _/_, _%_, _^_, _<_}
+use Prim.Native.Nat.{ℕ, _*_, _/_, _%_, _^_, _<_}
 use native.Mathlib.Omega.{arith}
 use lib.Bits.{bitOr, or-shifted}
 use borrow.Author.Needs.{needs}
