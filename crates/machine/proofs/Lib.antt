@@ -1,0 +1,2 @@
+-- Laws that callers' proofs cite: of the depth.
+pub mod Depths

@@ -1,0 +1,5 @@
+pub mod Controls
+pub mod Modes
+pub mod Filters
+pub mod Regs
+pub mod Answers

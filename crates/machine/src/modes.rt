@@ -1,0 +1,61 @@
+// Which modes are on, and which control register speaks for a mode or a transition.
+ghost use mathlib.Core.Path.{_≡_};
+ghost use Rattle.machine.specs.Controls.{isSet};
+ghost use Rattle.machine.specs.Modes.{isVirtual, controlOf, switchOf, onOf, governingOf};
+use crate::ControlBit;
+use crate::Mode;
+use crate::Registers;
+use crate::controls::is_set;
+
+// Whether V=1 in a mode.
+pub fn is_virtual(m: Mode) -> bool
+    ensures { λ r. ⌜ r ≡ isVirtual m ⌝ }
+{
+    match m {
+        Mode::U => false,
+        Mode::S => false,
+        Mode::M => false,
+        Mode::VU => true,
+        Mode::VS => true,
+    }
+}
+
+// The control register of a mode.
+pub fn control(r: Registers, m: Mode) -> u64
+    ensures { λ x. ⌜ x ≡ controlOf r m ⌝ }
+{
+    if is_virtual(m) { r.vsctrctl } else { r.mctrctl }
+}
+
+// Whether the control register of a mode has a bit set.
+pub fn has(r: Registers, m: Mode, b: ControlBit) -> bool
+    ensures { λ x. ⌜ x ≡ isSet (controlOf r m) b ⌝ }
+{
+    is_set(control(r, m), b)
+}
+
+fn switch_bit(m: Mode) -> ControlBit
+    ensures { λ b. ⌜ b ≡ switchOf m ⌝ }
+{
+    match m {
+        Mode::U => ControlBit::U,
+        Mode::S => ControlBit::S,
+        Mode::M => ControlBit::M,
+        Mode::VU => ControlBit::U,
+        Mode::VS => ControlBit::S,
+    }
+}
+
+// Whether a mode is on for recording.
+pub fn is_on(r: Registers, m: Mode) -> bool
+    ensures { λ b. ⌜ b ≡ onOf r m ⌝ }
+{
+    has(r, m, switch_bit(m))
+}
+
+// The control register that governs a transition.
+pub fn governing(r: Registers, source: Mode, target: Mode) -> u64
+    ensures { λ x. ⌜ x ≡ governingOf r source target ⌝ }
+{
+    control(r, source)
+}

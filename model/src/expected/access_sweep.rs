@@ -1,0 +1,222 @@
+//! The expected output of `access_sweep`: every operation on many CSR numbers, SCTRCLR and host
+//! events, in every mode and many states, and the places of logical entries.
+
+use crate::access::{Access, Answer, Operation};
+use crate::digest::{digest, xorshift64, SEED};
+use crate::registers::{Entry, Mode, Registers, DEPTHS, MCTRCTL_MASK, SCTRCTL_MASK};
+
+/// Both ends of the window, of the entries in use at depths 16 and 128, and a high bit.
+const SELECTIONS: [u64; 9] = [
+    0x1FF,
+    0x200,
+    0x20F,
+    0x210,
+    0x27F,
+    0x280,
+    0x2FF,
+    0x300,
+    0x8000_0000_0000_0200,
+];
+
+/// What `access_sweep` prints: a block of lines for each mode, and one for logical entries.
+pub fn access_sweep() -> String {
+    let modes: String = Mode::ALL.into_iter().map(mode_block).collect();
+    modes + &logical_entries()
+}
+
+/// All listed CSR numbers and their neighbours.
+fn numbers() -> impl Iterator<Item = u64> {
+    (0x14D..=0x158)
+        .chain(0x15E..=0x160)
+        .chain(0x24D..=0x258)
+        .chain(0x34D..=0x34F)
+}
+
+/// The last pseudo-random number that was drawn.
+struct Random(u64);
+
+impl Random {
+    fn draw(&mut self) -> u64 {
+        self.0 = xorshift64(self.0);
+        self.0
+    }
+
+    /// Often no bits, all bits or few bits.
+    fn operand(&mut self) -> u64 {
+        let x = self.draw();
+        match x >> 62 {
+            0 => 0,
+            1 => u64::MAX,
+            2 => x % 1024,
+            _ => x,
+        }
+    }
+
+    fn entry(&mut self) -> Entry {
+        Entry {
+            ctrsource: self.draw(),
+            ctrtarget: self.draw(),
+            ctrdata: self.draw(),
+        }
+    }
+
+    /// State `s`, without state enables and selections. Some control words, WRPTRs and depth codes
+    /// are bad.
+    fn state(&mut self, mode: Mode, s: u64) -> Registers {
+        let (mctrctl, vsctrctl) = (self.draw(), self.draw());
+        let depth_code = s % 5;
+        let wrptrs = if s % 8 == 5 {
+            256
+        } else {
+            16 << depth_code.min(3)
+        };
+        Registers {
+            mode,
+            mctrctl: if s % 8 == 7 {
+                mctrctl
+            } else {
+                mctrctl & MCTRCTL_MASK
+            },
+            vsctrctl: if s % 8 == 6 {
+                vsctrctl
+            } else {
+                vsctrctl & SCTRCTL_MASK
+            },
+            depth_code,
+            wrptr: self.draw() % wrptrs,
+            frozen: s % 2 == 1,
+            ..Registers::RESET
+        }
+    }
+}
+
+/// How often each number was answered, and the digests of answers and of what is there afterwards.
+#[derive(Default)]
+struct Tally {
+    counts: [u32; 6],
+    answers: u64,
+    registers: u64,
+    entries: u64,
+}
+
+impl Tally {
+    fn add(&mut self, answer: Answer, registers: &Registers, entry: &Entry) {
+        self.counts[usize::from(answer.number)] += 1;
+        self.answers = extended(self.answers, [answer.number.into(), answer.value]);
+        self.registers = extended(self.registers, fields(registers));
+        let words = [entry.ctrsource, entry.ctrtarget, entry.ctrdata];
+        self.entries = extended(self.entries, words);
+    }
+
+    fn lines(&self) -> String {
+        let counts = self.counts.iter().enumerate();
+        let mut text: String = counts
+            .map(|(number, count)| format!("  number {number} {count}\n"))
+            .collect();
+        text += &format!("  answers 0x{:016x}\n", self.answers);
+        text += &format!("  registers 0x{:016x}\n", self.registers);
+        text + &format!("  entries 0x{:016x}\n", self.entries)
+    }
+}
+
+/// The digest of a list that goes on with `words` after those of the digest `h`.
+fn extended(h: u64, words: impl IntoIterator<Item = u64>) -> u64 {
+    words.into_iter().fold(h, digest)
+}
+
+fn fields(registers: &Registers) -> [u64; 10] {
+    [
+        registers.mode as u64,
+        registers.mctrctl,
+        registers.vsctrctl,
+        registers.depth_code,
+        registers.wrptr,
+        registers.frozen.into(),
+        registers.siselect,
+        registers.vsiselect,
+        registers.mstateen0_ctr.into(),
+        registers.hstateen0_ctr.into(),
+    ]
+}
+
+fn mode_block(mode: Mode) -> String {
+    let mut random = Random(SEED);
+    let mut tally = Tally::default();
+    for s in 0..40 {
+        let state = random.state(mode, s);
+        for e in 0..4 {
+            for j in 0..9 {
+                let registers = Registers {
+                    siselect: selection(j),
+                    vsiselect: selection(2 * j + s),
+                    mstateen0_ctr: e % 2 == 1,
+                    hstateen0_ctr: e / 2 == 1,
+                    ..state
+                };
+                add_events(&mut tally, &mut random, &registers);
+            }
+        }
+    }
+    format!("mode {mode:?}\n{}", tally.lines())
+}
+
+fn selection(index: u64) -> u64 {
+    SELECTIONS[index as usize % SELECTIONS.len()]
+}
+
+/// All accesses from one state, each with an operand and an entry of its own, then SCTRCLR and a
+/// host event with the last entry.
+fn add_events(tally: &mut Tally, random: &mut Random, start: &Registers) {
+    let mut last = Entry::default();
+    for csr in numbers() {
+        for operation in Operation::ALL {
+            let operand = random.operand();
+            last = random.entry();
+            let (mut registers, mut entry) = (*start, last);
+            let access = Access {
+                operation,
+                csr,
+                operand,
+            };
+            let answer = registers.access(&mut entry, access);
+            tally.add(answer, &registers, &entry);
+        }
+    }
+    let mut cleared = last;
+    let answer = start.sctrclr(&mut cleared);
+    tally.add(answer, start, &cleared);
+
+    let (mut registers, x) = (*start, random.0);
+    let answer = registers.set_state_enables(x & 1 == 1, x >> 1 & 1 == 1);
+    tally.add(answer, &registers, &last);
+}
+
+/// For each depth, the digest of the places of all logical entries under all WRPTRs.
+fn logical_entries() -> String {
+    let mut text = "logical entries\n".to_string();
+    for (depth_code, depth) in (0..).zip(DEPTHS) {
+        let places = (0..depth).flat_map(|wrptr| places(depth_code, wrptr));
+        text += &format!("  depth {depth} 0x{:016x}\n", extended(0, places));
+    }
+    text
+}
+
+/// The physical entries of all logical entries in turn.
+fn places(depth_code: u64, wrptr: u64) -> impl Iterator<Item = u64> {
+    let registers = Registers {
+        depth_code,
+        wrptr,
+        ..Registers::RESET
+    };
+    (0..registers.depth()).map(move |i| registers.physical_entry(i))
+}
+
+#[cfg(test)]
+mod tests {
+    use super::*;
+
+    #[test]
+    fn thirty_numbers() {
+        assert_eq!(numbers().count(), 30);
+    }
+}

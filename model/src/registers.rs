@@ -1,0 +1,274 @@
+//! The recorder's registers and one of its entries: any values, what of them is read, and what
+//! becomes of a write. Who may read and write is asked elsewhere.
+
+/// The bits that mctrctl has.
+pub const MCTRCTL_MASK: u64 = 0x0000_FF3E_0000_1B87;
+
+/// The bits that sctrctl shows of mctrctl, all but M and MTE; vsctrctl has the same.
+pub const SCTRCTL_MASK: u64 = 0x0000_FF3E_0000_1983;
+
+/// The number of entries in use, by depth code.
+pub const DEPTHS: [u64; 4] = [16, 32, 64, 128];
+
+/// The selections that stand for logical entries 0 to 255.
+const WINDOW: std::ops::RangeInclusive<u64> = 0x200..=0x2FF;
+
+/// The bits of sctrstatus that hold WRPTR.
+const STATUS_WRPTR: u64 = 0xFF;
+
+/// The position of FROZEN in sctrstatus.
+const STATUS_FROZEN: u32 = 31;
+
+/// The bits of ctrtarget that are addresses; MISP is not there.
+const CTRTARGET_MASK: u64 = !1;
+
+/// The TYPE field of ctrdata; the other fields are not there.
+const CTRDATA_MASK: u64 = 0xF;
+
+/// A privilege mode; V is 1 in the last two.
+#[derive(Clone, Copy, Debug, PartialEq, Eq)]
+pub enum Mode {
+    U,
+    S,
+    M,
+    VU,
+    VS,
+}
+
+impl Mode {
+    pub const ALL: [Mode; 5] = [Mode::U, Mode::S, Mode::M, Mode::VU, Mode::VS];
+
+    pub fn is_virtual(self) -> bool {
+        matches!(self, Mode::VU | Mode::VS)
+    }
+}
+
+/// All of the recorder's state but its entries.
+#[derive(Clone, Copy, Debug, PartialEq, Eq)]
+pub struct Registers {
+    pub mode: Mode,
+    pub mctrctl: u64,
+    pub vsctrctl: u64,
+    pub depth_code: u64,
+    pub wrptr: u64,
+    pub frozen: bool,
+    pub siselect: u64,
+    pub vsiselect: u64,
+    pub mstateen0_ctr: bool,
+    pub hstateen0_ctr: bool,
+}
+
+/// The three words of an entry, undefined bits included.
+#[derive(Clone, Copy, Debug, Default, PartialEq, Eq)]
+pub struct Entry {
+    pub ctrsource: u64,
+    pub ctrtarget: u64,
+    pub ctrdata: u64,
+}
+
+/// A register that has a CSR number. `Sireg(1)` is sireg, `Sireg(2)` is sireg2, and so on.
+#[derive(Clone, Copy, Debug, PartialEq, Eq)]
+pub(crate) enum Register {
+    Sctrctl,
+    Sctrstatus,
+    Sctrdepth,
+    Vsctrctl,
+    Mctrctl,
+    Siselect,
+    Sireg(u8),
+    Vsiselect,
+    Vsireg(u8),
+}
+
+use Register::*;
+
+/// The listed CSR numbers. 0x154 and 0x254 are not among them.
+const LISTED: [(u64, Register); 19] = [
+    (0x14E, Sctrctl),
+    (0x14F, Sctrstatus),
+    (0x15F, Sctrdepth),
+    (0x24E, Vsctrctl),
+    (0x34E, Mctrctl),
+    (0x150, Siselect),
+    (0x151, Sireg(1)),
+    (0x152, Sireg(2)),
+    (0x153, Sireg(3)),
+    (0x155, Sireg(4)),
+    (0x156, Sireg(5)),
+    (0x157, Sireg(6)),
+    (0x250, Vsiselect),
+    (0x251, Vsireg(1)),
+    (0x252, Vsireg(2)),
+    (0x253, Vsireg(3)),
+    (0x255, Vsireg(4)),
+    (0x256, Vsireg(5)),
+    (0x257, Vsireg(6)),
+];
+
+/// The register of a CSR number, if it is listed.
+pub(crate) fn listed(csr: u64) -> Option<Register> {
+    LISTED
+        .iter()
+        .find(|(number, _)| *number == csr)
+        .map(|(_, register)| *register)
+}
+
+impl Registers {
+    /// Mode M, and all else 0.
+    pub const RESET: Registers = Registers {
+        mode: Mode::M,
+        mctrctl: 0,
+        vsctrctl: 0,
+        depth_code: 0,
+        wrptr: 0,
+        frozen: false,
+        siselect: 0,
+        vsiselect: 0,
+        mstateen0_ctr: false,
+        hstateen0_ctr: false,
+    };
+
+    /// Whether every event answers 5 here.
+    pub fn is_bad(&self) -> bool {
+        self.depth_code > 3
+            || self.wrptr >= self.depth()
+            || self.mctrctl & !MCTRCTL_MASK != 0
+            || self.vsctrctl & !SCTRCTL_MASK != 0
+    }
+
+    /// How many entries are in use. Panics for a depth code above 3.
+    pub fn depth(&self) -> u64 {
+        DEPTHS[self.depth_code as usize]
+    }
+
+    /// The physical entry of logical entry `i`: 0 is the one before WRPTR. Depths are powers of
+    /// two, so a difference that wraps at 64 bits has the right remainder.
+    pub fn physical_entry(&self, i: u64) -> u64 {
+        self.wrptr.wrapping_sub(1).wrapping_sub(i) % self.depth()
+    }
+
+    /// The register that is read and written: with V=1, a supervisor register's VS counterpart
+    /// if there is one.
+    fn meant(&self, register: Register) -> Register {
+        match register {
+            Sctrctl if self.mode.is_virtual() => Vsctrctl,
+            Siselect if self.mode.is_virtual() => Vsiselect,
+            Sireg(k) if self.mode.is_virtual() => Vsireg(k),
+            other => other,
+        }
+    }
+
+    /// All 64 bits of the select register that belongs to sireg* or vsireg*; none for others.
+    fn selection(&self, register: Register) -> Option<u64> {
+        match self.meant(register) {
+            Sireg(_) => Some(self.siselect),
+            Vsireg(_) => Some(self.vsiselect),
+            _ => None,
+        }
+    }
+
+    /// Whether this is sireg* or vsireg*, and selects one of the logical entries 0 to 255.
+    pub(crate) fn is_in_window(&self, register: Register) -> bool {
+        self.selection(register)
+            .is_some_and(|selection| WINDOW.contains(&selection))
+    }
+
+    /// Whether this is sireg* or vsireg*, and selects something else.
+    pub(crate) fn is_outside_window(&self, register: Register) -> bool {
+        self.selection(register)
+            .is_some_and(|selection| !WINDOW.contains(&selection))
+    }
+
+    /// Whether this is sireg* or vsireg*, and selects an entry in use.
+    fn selects_entry(&self, register: Register) -> bool {
+        self.selection(register)
+            .and_then(|selection| selection.checked_sub(*WINDOW.start()))
+            .is_some_and(|logical| logical < self.depth())
+    }
+
+    /// What is read; `entry` is the one that the register selects, if it selects one.
+    pub(crate) fn reading(&self, entry: &Entry, register: Register) -> u64 {
+        match self.meant(register) {
+            Sctrctl => self.mctrctl & SCTRCTL_MASK,
+            Sctrstatus => self.wrptr | u64::from(self.frozen) << STATUS_FROZEN,
+            Sctrdepth => self.depth_code,
+            Vsctrctl => self.vsctrctl,
+            Mctrctl => self.mctrctl,
+            Siselect => self.siselect,
+            Vsiselect => self.vsiselect,
+            Sireg(k) | Vsireg(k) if self.selects_entry(register) => entry.reading(k),
+            Sireg(_) | Vsireg(_) => 0,
+        }
+    }
+
+    /// Writes; `entry` is the one that the register selects, if it selects one.
+    pub(crate) fn write(&mut self, entry: &mut Entry, register: Register, value: u64) {
+        match self.meant(register) {
+            Sctrctl => {
+                self.mctrctl = self.mctrctl & !SCTRCTL_MASK | value & SCTRCTL_MASK;
+            }
+            Sctrstatus => {
+                self.wrptr = (value & STATUS_WRPTR) % self.depth();
+                self.frozen = value >> STATUS_FROZEN & 1 == 1;
+            }
+            Sctrdepth => {
+                self.depth_code = (value & 7).min(3);
+                self.wrptr %= self.depth();
+            }
+            Vsctrctl => self.vsctrctl = value & SCTRCTL_MASK,
+            Mctrctl => self.mctrctl = value & MCTRCTL_MASK,
+            Siselect => self.siselect = value,
+            Vsiselect => self.vsiselect = value,
+            Sireg(k) | Vsireg(k) if self.selects_entry(register) => entry.write(k, value),
+            Sireg(_) | Vsireg(_) => {}
+        }
+    }
+}
+
+impl Entry {
+    /// What sireg `k` reads of the entry.
+    fn reading(&self, k: u8) -> u64 {
+        match k {
+            1 => self.ctrsource,
+            2 => self.ctrtarget & CTRTARGET_MASK,
+            3 => self.ctrdata & CTRDATA_MASK,
+            _ => 0,
+        }
+    }
+
+    /// Writes through sireg `k`.
+    fn write(&mut self, k: u8, value: u64) {
+        match k {
+            1 => self.ctrsource = value,
+            2 => self.ctrtarget = value & CTRTARGET_MASK,
+            3 => self.ctrdata = value & CTRDATA_MASK,
+            _ => {}
+        }
+    }
+}
+
+#[cfg(test)]
+mod tests {
+    use super::*;
+
+    /// U 0, S 1, RASEMU 7, STE 8, BPFRZ 11, LCOFIFRZ 12, EXCINH 33 to TKBRINH 37, INDCALLINH 40
+    /// to DIRLJMPINH 47; and M 2, MTE 9 in mctrctl.
+    #[test]
+    fn masks_have_the_bits_of_the_fields() {
+        let fields = [0, 1, 7, 8, 11, 12]
+            .into_iter()
+            .chain(33..=37)
+            .chain(40..=47);
+        let mask = fields.fold(0, |mask, bit| mask | 1_u64 << bit);
+        assert_eq!(SCTRCTL_MASK, mask);
+        assert_eq!(MCTRCTL_MASK, mask | 1 << 2 | 1 << 9);
+    }
+
+    #[test]
+    fn listed_numbers_are_distinct() {
+        for (index, (number, register)) in LISTED.iter().enumerate() {
+            let earlier = &LISTED[..index];
+            assert!(!earlier.iter().any(|(n, r)| n == number || r == register));
+        }
+    }
+}
