@@ -68,8 +68,6 @@ enum Target {
     Sctrclr,
 }
 
-use Target::Sctrclr;
-
 /// Whether a step applies in this state to this target.
 type Condition = fn(&Registers, Target) -> bool;
 
@@ -123,7 +121,7 @@ fn is_outside_window(registers: &Registers, target: Target) -> bool {
 fn is_enabled_state(registers: &Registers, target: Target) -> bool {
     use Register::*;
     match target {
-        Target::Register(Sctrctl | Vsctrctl | Sctrdepth | Sctrstatus) | Sctrclr => true,
+        Target::Register(Sctrctl | Vsctrctl | Sctrdepth | Sctrstatus) | Target::Sctrclr => true,
         Target::Register(register) => registers.is_in_window(register),
     }
 }
@@ -161,7 +159,7 @@ impl Registers {
         if self.is_bad() {
             return refused(BAD_STATE);
         }
-        if let Some(number) = refusal(self, Sctrclr) {
+        if let Some(number) = refusal(self, Target::Sctrclr) {
             return refused(number);
         }
         *entry = Entry::default();

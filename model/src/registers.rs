@@ -1,6 +1,10 @@
 //! The recorder's registers and one of its entries: any values, what of them is read, and what
 //! becomes of a write. Who may read and write is asked elsewhere.
 
+use std::ops::RangeInclusive;
+
+use self::Register::*;
+
 /// The bits that mctrctl has.
 pub const MCTRCTL_MASK: u64 = 0x0000_FF3E_0000_1B87;
 
@@ -11,7 +15,7 @@ pub const SCTRCTL_MASK: u64 = 0x0000_FF3E_0000_1983;
 pub const DEPTHS: [u64; 4] = [16, 32, 64, 128];
 
 /// The selections that stand for logical entries 0 to 255.
-const WINDOW: std::ops::RangeInclusive<u64> = 0x200..=0x2FF;
+const WINDOW: RangeInclusive<u64> = 0x200..=0x2FF;
 
 /// The bits of sctrstatus that hold WRPTR.
 const STATUS_WRPTR: u64 = 0xFF;
@@ -25,14 +29,14 @@ const CTRTARGET_MASK: u64 = !1;
 /// The TYPE field of ctrdata; the other fields are not there.
 const CTRDATA_MASK: u64 = 0xF;
 
-/// A privilege mode; V is 1 in the last two.
+/// A privilege mode with its code; V is 1 in the last two.
 #[derive(Clone, Copy, Debug, PartialEq, Eq)]
 pub enum Mode {
-    U,
-    S,
-    M,
-    VU,
-    VS,
+    U = 0,
+    S = 1,
+    M = 2,
+    VU = 3,
+    VS = 4,
 }
 
 impl Mode {
@@ -79,8 +83,6 @@ pub(crate) enum Register {
     Vsiselect,
     Vsireg(u8),
 }
-
-use Register::*;
 
 /// The listed CSR numbers. 0x154 and 0x254 are not among them.
 const LISTED: [(u64, Register); 19] = [

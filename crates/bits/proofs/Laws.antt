@@ -1,11 +1,12 @@
 -- Fields of a word of any width, and what a mask does to a single bit, once for every mask and position. Assumes nothing.
-use mathlib.Core.Path.{_≡_, _∙_}
-use Prim.Native.Nat.{ℕ, _-_, _*_, _/_, _%_, _^_, _≤_, _<_, min}
-use native.Mathlib.Nat.{mod-eq-of-lt, div-eq-of-lt, div-le-self}
+use mathlib.Core.Path.{_≡_, refl, sym, _∙_}
+use Prim.Native.Nat.{ℕ, suc, _-_, _*_, _/_, _%_, _^_, _≤_, _<_, min, max}
+use native.Mathlib.Nat.{mod-eq-of-lt, div-eq-of-lt, div-le-self, div-div-eq-div-mul, pow-succ'}
 use native.Mathlib.Omega.{arith}
-use lib.Bits.{bitAnd, and-step, and-shr, and-mask}
+use lib.Bits.{bitAnd, bitOr, and-step, or-step, and-shr, or-shr, and-le-r, and-mask}
+use lib.Arith.{bin-ind}
 use lib.Pow.{pow-pos, pow-mono, pow-lt}
-use Rattle.bits.specs.Words.{bitAt, fieldAt, keep}
+use Rattle.bits.specs.Words.{bitAt, fieldAt, keep, joined}
 
 -- a word of m bits has nothing from bit m up
 module _ (m : ℕ) {x : ℕ} (fits : x < 2 ^ m) where
@@ -38,7 +39,54 @@ field-mask m x n k h = rw (one-shifted m k h) (and-mask (x / 2 ^ n) k)
 and-low : (a b : ℕ) → bitAnd a b % 2 ≡ min (a % 2) (b % 2)
 and-low a b = omega (arith, and-step a b)
 
+or-low : (a b : ℕ) → bitOr a b % 2 ≡ max (a % 2) (b % 2)
+or-low a b = omega (arith, or-step a b)
+
+zero-bit : (n : ℕ) → bitAt 0 n ≡ 0
+zero-bit n = rw (div-eq-of-lt (pow-pos n))
+
 -- bit n of what a mask keeps
 pub bit-keep : (m x n : ℕ) → bitAt (keep m x) n ≡ min (bitAt x n) (bitAt m n)
 unfolding keep
 bit-keep m x n = rw (and-shr x m n) (and-low (x / 2 ^ n) (m / 2 ^ n))
+
+-- bit n of two words joined
+pub bit-joined : (x y n : ℕ) → bitAt (joined x y) n ≡ max (bitAt x n) (bitAt y n)
+unfolding joined
+bit-joined x y n = rw (or-shr x y n) (or-low (x / 2 ^ n) (y / 2 ^ n))
+
+-- bit n of the upper bits
+bit-half : (x n : ℕ) → bitAt (x / 2) n ≡ bitAt x (suc n)
+bit-half x n = rw (div-div-eq-div-mul x 2 (2 ^ n), ← pow-succ' 2 n)
+
+zero-bits : (y : ℕ) → ((n : ℕ) → bitAt y n ≡ 0) → y ≡ 0
+zero-bits =
+    bin-ind (λ (y : ℕ). ((n : ℕ) → bitAt y n ≡ 0) → y ≡ 0)
+    (λ h. refl)
+    (λ y ih h. let e : y / 2 ≡ 0 = ih (λ n. bit-half y n ∙ h (suc n)) in omega (arith, e, h 0))
+
+-- two numbers with the same bits are equal
+pub same-bits : (x y : ℕ) → ((n : ℕ) → bitAt x n ≡ bitAt y n) → x ≡ y
+same-bits =
+    bin-ind (λ (x : ℕ). (y : ℕ) → ((n : ℕ) → bitAt x n ≡ bitAt y n) → x ≡ y)
+    (λ y h. sym (zero-bits y (λ n. sym (h n) ∙ zero-bit n)))
+    (λ x ih y h.
+    let e : x / 2 ≡ y / 2 = ih (y / 2) (λ n. bit-half x n ∙ h (suc n) ∙ sym (bit-half y n)) in
+    omega (arith, e, h 0))
+
+-- what a mask keeps is at most the mask
+pub keep-le : (m x : ℕ) → keep m x ≤ m
+unfolding keep
+keep-le m x = and-le-r x m
+
+-- what is masked already stays
+pub keep-keep : (m x : ℕ) → keep m (keep m x) ≡ keep m x
+keep-keep m x = same-bits _ _ (λ n. omega (arith, bit-keep m (keep m x) n, bit-keep m x n))
+
+-- of two words joined under masks that have no bit in common, each mask keeps its own
+pub keep-joined : (a b x y : ℕ) → keep a b ≡ 0 → keep a (joined (keep a x) (keep b y)) ≡ keep a x
+keep-joined a b x y e =
+    same-bits _ _
+    (λ n.
+    let z : bitAt (keep a b) n ≡ 0 = rw e (zero-bit n) in
+    omega (arith, z, bit-keep a (joined (keep a x) (keep b y)) n, bit-joined (keep a x) (keep b y) n, bit-keep a x n, bit-keep b y n, bit-keep a b n))

@@ -1,7 +1,7 @@
 -- Conditionals whose test is known: `search picks depth N` follows a function's branches through its definition. In each law `r` is
 -- what a call answered (`r ≡ b`, the callee's ensures) and which way the branch on it went (`r ≡ true`). Assumes nothing.
 use mathlib.Core.Path.{_≡_}
-use mathlib.Core.Bool.{Bool, true, false, _&&_, _||_}
+use mathlib.Core.Bool.{Bool, true, false, not, _&&_, _||_}
 use Prim.Native.Nat.{ℕ}
 use lib.Dec.{eqb}
 use borrow.Author.Tests.{eq-eqb, ne-eqb}
@@ -19,6 +19,12 @@ and-yes r b x c e t p = simp (← e, t) p
 pub and-no : (r b x c : Bool) → r ≡ b → r ≡ false → x ≡ false → x ≡ (b && c)
 and-no r b x c e t p = simp (← e, t) p
 
+pub not-and-yes : (r b x c : Bool) → r ≡ b → r ≡ true → x ≡ false → x ≡ (not b && c)
+not-and-yes r b x c e t p = simp (← e, t) p
+
+pub not-and-no : (r b x c : Bool) → r ≡ b → r ≡ false → x ≡ c → x ≡ (not b && c)
+not-and-no r b x c e t p = simp (← e, t) p
+
 pub or-yes : (r b x c : Bool) → r ≡ b → r ≡ true → x ≡ true → x ≡ (b || c)
 or-yes r b x c e t p = simp (← e, t) p
 
@@ -35,4 +41,4 @@ key-other n k j x y z e t p = simp (e, t) p
 pub key-no : {A : Type 0} (n k : ℕ) (x y z : A) → (n ≡ k → ⊥) → x ≡ z → x ≡ (if eqb n k then y else z)
 key-no n k x y z e p = simp (ne-eqb n k e) p
 
-pub ruleset picks = (yes-case, no-case, and-yes, and-no, or-yes, or-no, key-yes, key-other, key-no)
+pub ruleset picks = (yes-case, no-case, and-yes, and-no, not-and-yes, not-and-no, or-yes, or-no, key-yes, key-other, key-no)

@@ -1,9 +1,9 @@
 // Bits, fields and masks of words: shifts and masks in the code, plain arithmetic in the contracts.
 // A position past the word reads 0, so no function asks anything of its arguments.
 ghost use mathlib.Core.Path.{_≡_};
-ghost use Prim.Native.Nat.{_+_, _*_, _/_};
+ghost use Prim.Native.Nat.{_+_, _*_, _/_, _%_, _^_};
 ghost use lib.Dec.{eqb};
-ghost use Rattle.bits.specs.Words.{bitAt, fieldAt, keep};
+ghost use Rattle.bits.specs.Words.{bitAt, fieldAt, keep, joined, without};
 
 // Whether bit n of x is set.
 pub fn bit(x: u64, n: u32) -> bool
@@ -27,6 +27,13 @@ pub fn field64(x: u64, n: u32, k: u32) -> u64
     }
 }
 
+// The k low bits of x.
+pub fn low(x: u64, k: u32) -> u64
+    ensures { λ r. ⌜ r ≡ x % 2 ^ k ⌝ }
+{
+    field64(x, 0, k)
+}
+
 // The k bits of w from bit n up.
 pub fn field32(w: u32, n: u32, k: u32) -> u32
     ensures { λ r. ⌜ r ≡ fieldAt w n k ⌝ }
@@ -47,6 +54,20 @@ pub fn masked(x: u64, m: u64) -> u64
     ensures { λ r. ⌜ r ≡ keep m x ⌝ }
 {
     x & m
+}
+
+// The bits of x and those of y.
+pub fn join(x: u64, y: u64) -> u64
+    ensures { λ r. ⌜ r ≡ joined x y ⌝ }
+{
+    x | y
+}
+
+// x without the bits of y.
+pub fn strip(x: u64, y: u64) -> u64
+    ensures { λ r. ⌜ r ≡ without x y ⌝ }
+{
+    x & !y
 }
 
 // x with bit 0 set.

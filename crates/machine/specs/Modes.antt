@@ -17,6 +17,34 @@ isVirtual M = false
 isVirtual VU = true
 isVirtual VS = true
 
+abbrev pub isU : Mode → Bool
+isU U = true
+isU S = false
+isU M = false
+isU VU = false
+isU VS = false
+
+abbrev pub isM : Mode → Bool
+isM U = false
+isM S = false
+isM M = true
+isM VU = false
+isM VS = false
+
+abbrev pub isVU : Mode → Bool
+isVU U = false
+isVU S = false
+isVU M = false
+isVU VU = true
+isVU VS = false
+
+abbrev pub isVS : Mode → Bool
+isVS U = false
+isVS S = false
+isVS M = false
+isVS VU = false
+isVS VS = true
+
 -- the control register of a mode: vsctrctl for VS and VU, else mctrctl
 unfoldable pub controlOf : Registers → Mode → ℕ
 controlOf r m = if isVirtual m then r .vsctrctl else r .mctrctl

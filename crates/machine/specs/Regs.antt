@@ -1,6 +1,6 @@
 -- The registers: all state but the entries. Their value at reset, one field changed, the depth, and number 5.
 use Prim.Native.Nat.{ℕ, _+_, _-_, _%_, _^_, min}
-use mathlib.Core.Bool.{Bool, true, false, _&&_}
+use mathlib.Core.Bool.{Bool, false, _&&_}
 use lib.Dec.{eqb, leb, ltb}
 use Rattle.bits.specs.Words.{keep}
 use Rattle.machine.specs.Controls.{mctrctlMask, sctrctlMask}

@@ -1,7 +1,7 @@
 // Which modes are on, and which control register speaks for a mode or a transition.
 ghost use mathlib.Core.Path.{_≡_};
 ghost use Rattle.machine.specs.Controls.{isSet};
-ghost use Rattle.machine.specs.Modes.{isVirtual, controlOf, switchOf, onOf, governingOf};
+ghost use Rattle.machine.specs.Modes.{isVirtual, isU, isM, isVU, isVS, controlOf, switchOf, onOf, governingOf};
 use crate::ControlBit;
 use crate::Mode;
 use crate::Registers;
@@ -16,6 +16,54 @@ pub fn is_virtual(m: Mode) -> bool
         Mode::S => false,
         Mode::M => false,
         Mode::VU => true,
+        Mode::VS => true,
+    }
+}
+
+pub fn is_u(m: Mode) -> bool
+    ensures { λ r. ⌜ r ≡ isU m ⌝ }
+{
+    match m {
+        Mode::U => true,
+        Mode::S => false,
+        Mode::M => false,
+        Mode::VU => false,
+        Mode::VS => false,
+    }
+}
+
+pub fn is_m(m: Mode) -> bool
+    ensures { λ r. ⌜ r ≡ isM m ⌝ }
+{
+    match m {
+        Mode::U => false,
+        Mode::S => false,
+        Mode::M => true,
+        Mode::VU => false,
+        Mode::VS => false,
+    }
+}
+
+pub fn is_vu(m: Mode) -> bool
+    ensures { λ r. ⌜ r ≡ isVU m ⌝ }
+{
+    match m {
+        Mode::U => false,
+        Mode::S => false,
+        Mode::M => false,
+        Mode::VU => true,
+        Mode::VS => false,
+    }
+}
+
+pub fn is_vs(m: Mode) -> bool
+    ensures { λ r. ⌜ r ≡ isVS m ⌝ }
+{
+    match m {
+        Mode::U => false,
+        Mode::S => false,
+        Mode::M => false,
+        Mode::VU => false,
         Mode::VS => true,
     }
 }

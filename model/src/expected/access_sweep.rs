@@ -215,8 +215,18 @@ fn places(depth_code: u64, wrptr: u64) -> impl Iterator<Item = u64> {
 mod tests {
     use super::*;
 
+    /// In each mode: 40 states, 4 settings of the state enables and 9 selections, with 30 numbers
+    /// under 4 operations and 2 more events.
     #[test]
-    fn thirty_numbers() {
-        assert_eq!(numbers().count(), 30);
+    fn each_mode_has_as_many_events() {
+        let sweep = access_sweep();
+        let counts: Vec<u32> = sweep
+            .lines()
+            .filter_map(|line| line.strip_prefix("  number "))
+            .map(|line| line.split_once(' ').expect("a number and a count").1)
+            .map(|count| count.parse().expect("a count"))
+            .collect();
+        let sums = counts.chunks(6).map(|mode| mode.iter().sum());
+        assert_eq!(Vec::<u32>::from_iter(sums), [40 * 4 * 9 * (30 * 4 + 2); 5]);
     }
 }

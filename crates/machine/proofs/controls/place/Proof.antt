@@ -1,5 +1,4 @@
 -- `machine::controls::place` meets its contract. Assumes nothing.
-use mathlib.Core.Path.{refl}
 use borrow.Author.Needs.{needs}
 use Rattle.machine.proofs.controls.place.Statement.{statement}
 use Rattle.machine.proofs.controls.place.Tie as tie

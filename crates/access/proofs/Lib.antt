@@ -1,0 +1,2 @@
+-- Laws of number ranges.
+pub mod Ranges

@@ -1,0 +1,16 @@
+-- `access::accesses::focus` meets its contract. Assumes nothing.
+use Rattle.access.specs.Accesses.{focusOf}
+use Rattle.access.proofs.accesses.focus.Statement.{statement}
+use Rattle.access.proofs.accesses.focus.Tie as tie
+
+pub focus-spec : {M : Type 1} → statement M
+unfolding focusOf
+focus-spec =
+    tie.close
+    (tie.spec
+    (λ c κs. tt)
+    (λ c κs. tt)
+    (λ c κs. tt)
+    (λ c κs. tt)
+    (λ c κs. tt)
+    (λ c. cc))

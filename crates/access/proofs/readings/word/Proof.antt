@@ -1,0 +1,17 @@
+-- `access::readings::word` meets its contract. Assumes nothing.
+use Rattle.access.specs.Readings.{wordOf}
+use Rattle.bits.proofs.Picks.{picks}
+use Rattle.access.proofs.readings.word.Statement.{statement}
+use Rattle.access.proofs.readings.word.Tie as tie
+
+pub word-spec : {M : Type 1} → statement M
+unfolding wordOf
+word-spec =
+    tie.close
+    (tie.spec
+    (λ c κs. tt)
+    (λ c κs. tt)
+    (λ c. search picks depth 9)
+    (λ c. search picks depth 9)
+    (λ c. search picks depth 9)
+    (λ c. search picks depth 9))

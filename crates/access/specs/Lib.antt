@@ -1,0 +1,5 @@
+pub mod Numbers
+pub mod Steps
+pub mod Readings
+pub mod Writes
+pub mod Accesses

@@ -1,0 +1,459 @@
+//! What registers and entries read, and what writes make of them, where the access is granted
+//! (docs/RULES.md).
+
+use model::access::{Access, Answer, Operation};
+use model::digest::{xorshift64, SEED};
+use model::registers::{Entry, Mode, Registers};
+
+const SCTRCTL: u64 = 0x14E;
+const SCTRSTATUS: u64 = 0x14F;
+const SISELECT: u64 = 0x150;
+const SIREG: [u64; 6] = [0x151, 0x152, 0x153, 0x155, 0x156, 0x157];
+const SCTRDEPTH: u64 = 0x15F;
+const VSCTRCTL: u64 = 0x24E;
+const VSISELECT: u64 = 0x250;
+const VSIREG: [u64; 6] = [0x251, 0x252, 0x253, 0x255, 0x256, 0x257];
+const MCTRCTL: u64 = 0x34E;
+
+/// Both state enables are set, and all else is as after a reset.
+fn registers(mode: Mode) -> Registers {
+    Registers {
+        mode,
+        mstateen0_ctr: true,
+        hstateen0_ctr: true,
+        ..Registers::RESET
+    }
+}
+
+/// The value of a granted access.
+fn value(
+    registers: &mut Registers,
+    entry: &mut Entry,
+    operation: Operation,
+    csr: u64,
+    operand: u64,
+) -> u64 {
+    let access = Access {
+        operation,
+        csr,
+        operand,
+    };
+    let Answer { number, value } = registers.access(entry, access);
+    assert_eq!(number, 0, "access {access:x?} in {registers:x?}");
+    value
+}
+
+/// Reads a register that is no ireg.
+fn read(registers: &mut Registers, csr: u64) -> u64 {
+    let read = Operation::Read;
+    value(registers, &mut Entry::default(), read, csr, u64::MAX)
+}
+
+/// Writes a register that is no ireg.
+fn write(registers: &mut Registers, csr: u64, operand: u64) -> u64 {
+    let write = Operation::Write;
+    value(registers, &mut Entry::default(), write, csr, operand)
+}
+
+#[test]
+fn mctrctl_and_its_window_sctrctl() {
+    let mut registers = registers(Mode::M);
+    assert_eq!(write(&mut registers, MCTRCTL, u64::MAX), 0);
+    assert_eq!(read(&mut registers, MCTRCTL), 0x0000_FF3E_0000_1B87);
+    registers.mode = Mode::S;
+    assert_eq!(read(&mut registers, SCTRCTL), 0x0000_FF3E_0000_1983);
+    write(&mut registers, SCTRCTL, 0);
+    assert_eq!(registers.mctrctl, 0x204);
+    assert_eq!(registers.vsctrctl, 0);
+}
+
+/// sctrctl is the window in M too, and M and MTE are not to be had through it.
+#[test]
+fn sctrctl_from_m_keeps_m_and_mte() {
+    for mode in [Mode::S, Mode::M] {
+        let mut registers = registers(mode);
+        registers.mctrctl = 0x004;
+        assert_eq!(write(&mut registers, SCTRCTL, u64::MAX), 0);
+        assert_eq!(registers.mctrctl, 0x0000_FF3E_0000_1987);
+    }
+}
+
+#[test]
+fn vsctrctl_has_the_mask_of_sctrctl() {
+    for mode in [Mode::S, Mode::M] {
+        let mut registers = registers(mode);
+        assert_eq!(write(&mut registers, VSCTRCTL, u64::MAX), 0);
+        assert_eq!(read(&mut registers, VSCTRCTL), 0x0000_FF3E_0000_1983);
+        assert_eq!(registers.mctrctl, 0);
+    }
+}
+
+#[test]
+fn sctrctl_in_vs_is_vsctrctl() {
+    let mut registers = registers(Mode::VS);
+    registers.mctrctl = 0x206;
+    assert_eq!(write(&mut registers, SCTRCTL, u64::MAX), 0);
+    assert_eq!(registers.vsctrctl, 0x0000_FF3E_0000_1983);
+    assert_eq!(registers.mctrctl, 0x206);
+    assert_eq!(read(&mut registers, SCTRCTL), 0x0000_FF3E_0000_1983);
+}
+
+#[test]
+fn sctrstatus_holds_wrptr_and_frozen() {
+    let cases = [
+        // depth code, written, read
+        (0, 0x8000_001F, 0x8000_000F),
+        (0, 0x0000_0010, 0),
+        (1, 0x8000_003F, 0x8000_001F),
+        (3, 0x0000_00FF, 0x0000_007F),
+        (3, 0x0000_0180, 0),
+        (3, 0xFFFF_FFFF_7FFF_FF05, 0x0000_0005),
+        (3, u64::MAX, 0x8000_007F),
+    ];
+    for (depth_code, written, expected) in cases {
+        let mut registers = Registers {
+            depth_code,
+            ..registers(Mode::M)
+        };
+        assert_eq!(write(&mut registers, SCTRSTATUS, written), 0);
+        assert_eq!(read(&mut registers, SCTRSTATUS), expected);
+        assert_eq!(registers.wrptr, expected & 0xFF);
+        assert_eq!(registers.frozen, expected >> 31 == 1);
+    }
+}
+
+/// There is one sctrstatus: VS reaches it too.
+#[test]
+fn sctrstatus_from_vs_is_the_same() {
+    let mut registers = registers(Mode::VS);
+    write(&mut registers, SCTRSTATUS, 0x8000_0003);
+    assert_eq!((registers.wrptr, registers.frozen), (3, true));
+}
+
+#[test]
+fn sctrdepth_takes_three_bits_and_at_most_3() {
+    let cases = [(0, 0), (1, 1), (2, 2), (3, 3), (4, 3), (5, 3), (6, 3)];
+    let more = [(7, 3), (8, 0), (9, 1), (u64::MAX, 3), (1 << 32, 0)];
+    for (written, expected) in cases.into_iter().chain(more) {
+        let mut registers = registers(Mode::S);
+        assert_eq!(write(&mut registers, SCTRDEPTH, written), 0);
+        assert_eq!(read(&mut registers, SCTRDEPTH), expected);
+    }
+}
+
+#[test]
+fn sctrdepth_takes_wrptr_along() {
+    for (depth_code, wrptr) in [(0, 0x6D % 16), (1, 0x6D % 32), (2, 0x6D % 64), (3, 0x6D)] {
+        let mut registers = Registers {
+            depth_code: 3,
+            wrptr: 0x6D,
+            frozen: true,
+            ..registers(Mode::M)
+        };
+        assert_eq!(write(&mut registers, SCTRDEPTH, depth_code), 3);
+        assert_eq!(registers.wrptr, wrptr);
+        assert!(registers.frozen);
+    }
+}
+
+#[test]
+fn set_and_clear_work_on_the_old_reading() {
+    let start = Registers {
+        mctrctl: 0x206,
+        vsctrctl: 0x101,
+        depth_code: 2,
+        wrptr: 0x15,
+        frozen: true,
+        ..registers(Mode::M)
+    };
+    let cases = [
+        // number, old reading, operand, reading after set, reading after clear
+        (MCTRCTL, 0x206, 0x403, 0x207, 0x204),
+        (SCTRCTL, 0x002, 0x207, 0x003, 0x000),
+        (VSCTRCTL, 0x101, 0x303, 0x103, 0x000),
+        (SCTRSTATUS, 0x8000_0015, 0xC1, 0x8000_0015, 0x8000_0014),
+        (SCTRSTATUS, 0x8000_0015, 1 << 31, 0x8000_0015, 0x0000_0015),
+        (SCTRDEPTH, 2, 5, 3, 2),
+        (SCTRDEPTH, 2, 2, 2, 0),
+    ];
+    for (csr, old, operand, set, cleared) in cases {
+        for (operation, new) in [(Operation::Set, set), (Operation::Clear, cleared)] {
+            let mut registers = start;
+            let entry = &mut Entry::default();
+            assert_eq!(value(&mut registers, entry, operation, csr, operand), old);
+            assert_eq!(read(&mut registers, csr), new, "{operation:?} {csr:#x}");
+        }
+    }
+}
+
+#[test]
+fn set_and_clear_through_sctrctl_keep_m_and_mte() {
+    for operation in [Operation::Set, Operation::Clear] {
+        let mut registers = registers(Mode::S);
+        registers.mctrctl = 0x204;
+        let entry = &mut Entry::default();
+        value(&mut registers, entry, operation, SCTRCTL, 0x204);
+        assert_eq!(registers.mctrctl, 0x204);
+    }
+}
+
+#[test]
+fn select_registers_hold_64_bits() {
+    for mode in [Mode::S, Mode::M] {
+        let mut registers = registers(mode);
+        write(&mut registers, SISELECT, 0xFEDC_BA98_7654_3210);
+        write(&mut registers, VSISELECT, 0x0123_4567_89AB_CDEF);
+        assert_eq!(read(&mut registers, SISELECT), 0xFEDC_BA98_7654_3210);
+        assert_eq!(read(&mut registers, VSISELECT), 0x0123_4567_89AB_CDEF);
+        assert_eq!(registers.siselect, 0xFEDC_BA98_7654_3210);
+        assert_eq!(registers.vsiselect, 0x0123_4567_89AB_CDEF);
+    }
+}
+
+#[test]
+fn siselect_in_vs_is_vsiselect() {
+    let mut registers = registers(Mode::VS);
+    registers.siselect = 5;
+    assert_eq!(write(&mut registers, SISELECT, u64::MAX), 0);
+    assert_eq!(read(&mut registers, SISELECT), u64::MAX);
+    assert_eq!((registers.siselect, registers.vsiselect), (5, u64::MAX));
+}
+
+const fn entry(ctrsource: u64, ctrtarget: u64, ctrdata: u64) -> Entry {
+    Entry {
+        ctrsource,
+        ctrtarget,
+        ctrdata,
+    }
+}
+
+/// All bits are set, undefined ones too.
+const FULL: Entry = entry(u64::MAX, u64::MAX, u64::MAX);
+
+/// All bits are set but undefined ones.
+const DEFINED: Entry = entry(u64::MAX, !1, 0xF);
+
+/// Logical entry 0 is selected, whatever the mode and the ireg.
+fn selecting(mode: Mode) -> Registers {
+    Registers {
+        siselect: 0x200,
+        vsiselect: 0x200,
+        ..registers(mode)
+    }
+}
+
+/// Of an entry with all bits set, ireg by ireg: what is read, and the words after a write of 0.
+const IREGS: [(u64, Entry); 6] = [
+    (u64::MAX, entry(0, u64::MAX, u64::MAX)),
+    (!1, entry(u64::MAX, 0, u64::MAX)),
+    (0xF, entry(u64::MAX, u64::MAX, 0)),
+    (0, FULL),
+    (0, FULL),
+    (0, FULL),
+];
+
+#[test]
+fn iregs_reach_the_words_of_an_entry() {
+    let sireg = [Mode::S, Mode::M, Mode::VS].map(|mode| (mode, SIREG));
+    let vsireg = [Mode::S, Mode::M].map(|mode| (mode, VSIREG));
+    for (mode, numbers) in sireg.into_iter().chain(vsireg) {
+        for (csr, (reading, zeroed)) in numbers.into_iter().zip(IREGS) {
+            let mut registers = selecting(mode);
+            let mut entry = FULL;
+            let read = value(&mut registers, &mut entry, Operation::Read, csr, 0);
+            assert_eq!((read, entry), (reading, FULL), "{mode:?} {csr:#x}");
+            let old = value(&mut registers, &mut entry, Operation::Write, csr, 0);
+            assert_eq!((old, entry), (reading, zeroed), "{mode:?} {csr:#x}");
+            assert_eq!(registers, selecting(mode));
+        }
+    }
+}
+
+#[test]
+fn a_written_entry_has_no_undefined_bits() {
+    let mut registers = selecting(Mode::S);
+    let mut entry = Entry::default();
+    for csr in SIREG {
+        let old = value(&mut registers, &mut entry, Operation::Write, csr, u64::MAX);
+        assert_eq!(old, 0);
+    }
+    assert_eq!(entry, DEFINED);
+}
+
+/// With operand 0 too: the word becomes what was read of it.
+#[test]
+fn set_and_clear_drop_undefined_bits_of_an_entry() {
+    for operation in [Operation::Set, Operation::Clear] {
+        let mut registers = selecting(Mode::S);
+        let mut entry = FULL;
+        for csr in SIREG {
+            value(&mut registers, &mut entry, operation, csr, 0);
+        }
+        assert_eq!(entry, DEFINED);
+    }
+}
+
+/// The last selection that is an entry, and the next one, which reads 0 and takes writes.
+#[test]
+fn entries_from_depth_on_read_0() {
+    for (depth_code, last) in [(0, 0x20F), (1, 0x21F), (2, 0x23F), (3, 0x27F)] {
+        for (selection, is_entry) in [(0x200, true), (last, true), (last + 1, false)] {
+            check_selection(depth_code, selection, is_entry);
+        }
+        check_selection(depth_code, 0x2FF, false);
+    }
+}
+
+fn check_selection(depth_code: u64, selection: u64, is_entry: bool) {
+    let mut registers = Registers {
+        depth_code,
+        siselect: selection,
+        ..registers(Mode::S)
+    };
+    let mut entry = FULL;
+    let set = value(&mut registers, &mut entry, Operation::Set, SIREG[0], 0);
+    let old = value(&mut registers, &mut entry, Operation::Write, SIREG[0], 1);
+    let expected = if is_entry { u64::MAX } else { 0 };
+    assert_eq!((set, old), (expected, expected), "{selection:#x}");
+    assert_eq!(entry.ctrsource, if is_entry { 1 } else { u64::MAX });
+}
+
+/// sireg* go by siselect with V=0 and by vsiselect with V=1; vsireg* go by vsiselect.
+#[test]
+fn the_selection_that_counts() {
+    for (mode, csr, goes_by_vsiselect) in [
+        (Mode::S, SIREG[0], false),
+        (Mode::M, SIREG[0], false),
+        (Mode::VS, SIREG[0], true),
+        (Mode::S, VSIREG[0], true),
+        (Mode::M, VSIREG[0], true),
+    ] {
+        for (siselect, vsiselect) in [(0x200, 0x2FF), (0x2FF, 0x200)] {
+            let mut registers = Registers {
+                siselect,
+                vsiselect,
+                ..registers(mode)
+            };
+            let counts = if goes_by_vsiselect {
+                vsiselect
+            } else {
+                siselect
+            };
+            let read = value(&mut registers, &mut FULL.clone(), Operation::Read, csr, 0);
+            assert_eq!(read != 0, counts == 0x200, "{mode:?} {csr:#x}");
+        }
+    }
+}
+
+#[test]
+fn bad_states() {
+    let bad = |change: fn(&mut Registers)| {
+        let mut registers = registers(Mode::M);
+        change(&mut registers);
+        registers.is_bad()
+    };
+    assert!(!bad(|_| {}));
+    assert!(bad(|r| r.depth_code = 4));
+    assert!(bad(|r| r.depth_code = u64::MAX));
+    assert!(bad(|r| r.wrptr = 16));
+    assert!(bad(|r| r.wrptr = u64::MAX));
+    assert!(!bad(|r| (r.depth_code, r.wrptr) = (1, 31)));
+    assert!(bad(|r| (r.depth_code, r.wrptr) = (1, 32)));
+    assert!(!bad(|r| (r.depth_code, r.wrptr) = (3, 127)));
+    assert!(bad(|r| (r.depth_code, r.wrptr) = (3, 128)));
+    assert!(!bad(|r| r.mctrctl = 0x0000_FF3E_0000_1B87));
+    assert!(!bad(|r| r.vsctrctl = 0x0000_FF3E_0000_1983));
+    assert!(!bad(|r| (r.siselect, r.vsiselect) = (u64::MAX, u64::MAX)));
+    assert!(!bad(|r| r.mstateen0_ctr = false));
+}
+
+#[test]
+fn every_control_bit_outside_its_mask_is_bad() {
+    for bit in 0..64 {
+        let mut registers = registers(Mode::M);
+        registers.mctrctl = 1 << bit;
+        let is_bad = 0x0000_FF3E_0000_1B87_u64 >> bit & 1 == 0;
+        assert_eq!(registers.is_bad(), is_bad, "bit {bit} of mctrctl");
+        (registers.mctrctl, registers.vsctrctl) = (0, 1 << bit);
+        let is_bad = 0x0000_FF3E_0000_1983_u64 >> bit & 1 == 0;
+        assert_eq!(registers.is_bad(), is_bad, "bit {bit} of vsctrctl");
+    }
+}
+
+/// Counted down from WRPTR, step by step.
+#[test]
+fn logical_entries_go_back_from_wrptr() {
+    for (depth_code, depth) in [(0, 16), (1, 32), (2, 64), (3, 128)] {
+        for wrptr in 0..depth {
+            let registers = Registers {
+                depth_code,
+                wrptr,
+                ..Registers::RESET
+            };
+            let mut place = wrptr;
+            for i in 0..depth {
+                place = if place == 0 { depth - 1 } else { place - 1 };
+                assert_eq!(registers.physical_entry(i), place);
+            }
+        }
+    }
+}
+
+/// A good state, and an entry, out of pseudo-random numbers.
+fn random_state(next: &mut impl FnMut() -> u64) -> (Registers, Entry) {
+    let depth_code = next() % 4;
+    let registers = Registers {
+        mode: Mode::ALL[next() as usize % 5],
+        mctrctl: next() & 0x0000_FF3E_0000_1B87,
+        vsctrctl: next() & 0x0000_FF3E_0000_1983,
+        depth_code,
+        wrptr: next() % (16 << depth_code),
+        frozen: next() % 2 == 1,
+        siselect: 0x1F0 + next() % 0x120,
+        vsiselect: 0x1F0 + next() % 0x120,
+        mstateen0_ctr: next() % 4 < 3,
+        hstateen0_ctr: next() % 4 < 3,
+    };
+    (registers, entry(next(), next(), next()))
+}
+
+/// In good states of all modes: a read changes nothing, the other operations have its value, and
+/// set and clear do what a write of the number computed from it does.
+#[test]
+fn operations_agree_in_random_states() {
+    let others = [
+        SCTRCTL, SCTRSTATUS, SISELECT, SCTRDEPTH, VSCTRCTL, VSISELECT, MCTRCTL,
+    ];
+    let numbers = [&others[..], &SIREG, &VSIREG].concat();
+    let mut x = SEED;
+    let mut next = || {
+        x = xorshift64(x);
+        x
+    };
+    for _ in 0..20_000 {
+        let state = random_state(&mut next);
+        let csr = numbers[next() as usize % numbers.len()];
+        check_operations(state, csr, next());
+    }
+}
+
+fn check_operations(state: (Registers, Entry), csr: u64, operand: u64) {
+    let outcome = |operation, operand| {
+        let (mut registers, mut entry) = state;
+        let access = Access {
+            operation,
+            csr,
+            operand,
+        };
+        let answer = registers.access(&mut entry, access);
+        (answer, (registers, entry))
+    };
+    let (answer, after) = outcome(Operation::Read, operand);
+    assert_eq!(after, state);
+    let old = answer.value;
+    let set = outcome(Operation::Set, operand);
+    let cleared = outcome(Operation::Clear, operand);
+    assert_eq!(set, outcome(Operation::Write, old | operand));
+    assert_eq!(cleared, outcome(Operation::Write, old & !operand));
+    assert_eq!((set.0, cleared.0), (answer, answer));
+}
