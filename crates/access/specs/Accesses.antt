@@ -9,11 +9,11 @@ use Rattle.machine.specs.Regs.{withStateen, physicalOf}
 use Rattle.machine.specs.declared.Decision.{Decision}
 use Rattle.machine.specs.declared.Registers.{Registers}
 use Rattle.machine.specs.declared.Entry.{Entry}
-use Rattle.access.specs.Numbers.{registerOf, meantOf}
-use Rattle.access.specs.Steps.{selectionOf, targetOf, sctrclrTarget, refusalOf}
+use Rattle.csr.specs.Numbers.{registerOf, meantOf}
+use Rattle.csr.specs.Steps.{selectionOf, targetOf, sctrclrTarget, refusalOf}
 use Rattle.access.specs.Readings.{readingOf}
 use Rattle.access.specs.Writes.{writeOf}
-use Rattle.access.specs.declared.Register.{Register}
+use Rattle.csr.specs.declared.Register.{Register}
 use Rattle.access.specs.declared.Operation.{Operation}
 use Rattle.access.specs.declared.Operation.the-variants.{Read, Write, Set, Clear}
 

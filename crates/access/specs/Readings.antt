@@ -8,8 +8,8 @@ use Rattle.machine.specs.Controls.{sctrctlMask}
 use Rattle.machine.specs.Regs.{depthOf}
 use Rattle.machine.specs.declared.Registers.{Registers}
 use Rattle.machine.specs.declared.Entry.{Entry}
-use Rattle.access.specs.declared.Register.{Register}
-use Rattle.access.specs.declared.Register.the-variants.{Mctrctl, Sctrctl, Vsctrctl, Sctrdepth, Sctrstatus, Siselect, Vsiselect, Sireg, Vsireg, Unlisted}
+use Rattle.csr.specs.declared.Register.{Register}
+use Rattle.csr.specs.declared.Register.the-variants.{Mctrctl, Sctrctl, Vsctrctl, Sctrdepth, Sctrstatus, Siselect, Vsiselect, Sireg, Vsireg, Unlisted}
 
 -- FROZEN at its place in sctrstatus, bit 31
 abbrev pub frozenBit : Bool → ℕ

@@ -9,8 +9,8 @@ use Rattle.machine.specs.Regs.{withMctrctl, withVsctrctl, withSctrdepth, withWr
 use Rattle.machine.specs.declared.Decision.{Decision}
 use Rattle.machine.specs.declared.Registers.{Registers}
 use Rattle.machine.specs.declared.Entry.{Entry}
-use Rattle.access.specs.declared.Register.{Register}
-use Rattle.access.specs.declared.Register.the-variants.{Mctrctl, Sctrctl, Vsctrctl, Sctrdepth, Sctrstatus, Siselect, Vsiselect, Sireg, Vsireg, Unlisted}
+use Rattle.csr.specs.declared.Register.{Register}
+use Rattle.csr.specs.declared.Register.the-variants.{Mctrctl, Sctrctl, Vsctrctl, Sctrdepth, Sctrstatus, Siselect, Vsiselect, Sireg, Vsireg, Unlisted}
 use Rattle.access.specs.Readings.{isEntry}
 
 -- through sctrctl: M and MTE of mctrctl stay

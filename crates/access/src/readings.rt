@@ -1,7 +1,7 @@
 // What the registers read as.
 ghost use mathlib.Core.Path.{_≡_};
 ghost use Rattle.access.specs.Readings.{frozenBit, statusOf, wordOf, isEntry, entryReading, readingOf};
-use crate::Register;
+use csr::Register;
 use machine::Entry;
 use machine::Registers;
 use machine::controls::SCTRCTL_MASK;
