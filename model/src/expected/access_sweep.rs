@@ -5,12 +5,16 @@ use crate::access::{Access, Answer, Operation};
 use crate::digest::{digest, xorshift64, SEED};
 use crate::registers::{Entry, Mode, Registers, DEPTHS, MCTRCTL_MASK, SCTRCTL_MASK};
 
-/// Both ends of the window, of the entries in use at depths 16 and 128, and a high bit.
-const SELECTIONS: [u64; 9] = [
+/// Both ends of the window, of the entries in use at each depth, and a high bit.
+const SELECTIONS: [u64; 13] = [
     0x1FF,
     0x200,
     0x20F,
     0x210,
+    0x21F,
+    0x220,
+    0x23F,
+    0x240,
     0x27F,
     0x280,
     0x2FF,
@@ -65,11 +69,8 @@ impl Random {
     fn state(&mut self, mode: Mode, s: u64) -> Registers {
         let (mctrctl, vsctrctl) = (self.draw(), self.draw());
         let depth_code = s % 5;
-        let wrptrs = if s % 8 == 5 {
-            256
-        } else {
-            16 << depth_code.min(3)
-        };
+        let depth = 16 << depth_code.min(3);
+        let wrptr = self.draw();
         Registers {
             mode,
             mctrctl: if s % 8 == 7 {
@@ -77,13 +78,17 @@ impl Random {
             } else {
                 mctrctl & MCTRCTL_MASK
             },
-            vsctrctl: if s % 8 == 6 {
-                vsctrctl
-            } else {
-                vsctrctl & SCTRCTL_MASK
+            vsctrctl: match s % 16 {
+                6 => 1 << 2,
+                14 => vsctrctl,
+                _ => vsctrctl & SCTRCTL_MASK,
             },
             depth_code,
-            wrptr: self.draw() % wrptrs,
+            wrptr: match s % 16 {
+                5 => depth,
+                13 => wrptr % 256,
+                _ => wrptr % depth,
+            },
             frozen: s % 2 == 1,
             ..Registers::RESET
         }
@@ -145,7 +150,7 @@ fn mode_block(mode: Mode) -> String {
     for s in 0..40 {
         let state = random.state(mode, s);
         for e in 0..4 {
-            for j in 0..9 {
+            for j in 0..SELECTIONS.len() as u64 {
                 let registers = Registers {
                     siselect: selection(j),
                     vsiselect: selection(2 * j + s),
@@ -215,7 +220,7 @@ fn places(depth_code: u64, wrptr: u64) -> impl Iterator<Item = u64> {
 mod tests {
     use super::*;
 
-    /// In each mode: 40 states, 4 settings of the state enables and 9 selections, with 30 numbers
+    /// In each mode: 40 states, 4 settings of the state enables and 13 selections, with 30 numbers
     /// under 4 operations and 2 more events.
     #[test]
     fn each_mode_has_as_many_events() {
@@ -227,6 +232,6 @@ mod tests {
             .map(|count| count.parse().expect("a count"))
             .collect();
         let sums = counts.chunks(6).map(|mode| mode.iter().sum());
-        assert_eq!(Vec::<u32>::from_iter(sums), [40 * 4 * 9 * (30 * 4 + 2); 5]);
+        assert_eq!(Vec::<u32>::from_iter(sums), [40 * 4 * 13 * (30 * 4 + 2); 5]);
     }
 }

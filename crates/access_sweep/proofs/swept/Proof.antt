@@ -1,0 +1,16 @@
+-- `access_sweep::swept` is safe and ends. Assumes nothing.
+use Prim.Native.Nat.{_-_, _≤_}
+use borrow.Author.Needs.{needs}
+use Rattle.access_sweep.proofs.swept.Statement.{statement}
+use Rattle.access_sweep.proofs.swept.Tie as tie
+
+abbrev Inv-loop : tie.InvT-loop
+Inv-loop mode run₀ s₀ run s = s ≤ 40
+
+abbrev μ-loop : tie.MeasureT-loop
+μ-loop mode run₀ s₀ run s = 40 - s
+
+pub swept-spec : {M : Type 1} → statement M
+swept-spec =
+    tie.close
+    (tie.spec Inv-loop μ-loop (λ c. search needs) (λ c κs. tt) (λ c. search needs) (λ c. search needs) (λ c. search needs) (λ c. search needs))

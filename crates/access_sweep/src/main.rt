@@ -1,0 +1,390 @@
+// Accesses every listed CSR number and its neighbours, with every operation, in every mode and in
+// many states, bad ones among them, and prints how often each number was answered and digests of
+// answers, registers and entries. The gate compares it with what the model prints.
+use access::Operation;
+use libc::STDOUT_FILENO;
+use machine::Decision;
+use machine::Effect;
+use machine::Entry;
+use machine::Mode;
+use machine::Registers;
+use machine::controls::MCTRCTL_MASK;
+use machine::controls::SCTRCTL_MASK;
+use test_support::SEED;
+use test_support::digest;
+use test_support::xorshift64;
+
+// What was seen, the last pseudo-random number and the last entry in focus.
+struct Run {
+    random: u64,
+    last: Entry,
+    counts: [u64; 6],
+    answers: u64,
+    registers: u64,
+    entries: u64,
+}
+
+const NUMBERS: [u64; 30] = [
+    0x14D,
+    0x14E,
+    0x14F,
+    0x150,
+    0x151,
+    0x152,
+    0x153,
+    0x154,
+    0x155,
+    0x156,
+    0x157,
+    0x158,
+    0x15E,
+    0x15F,
+    0x160,
+    0x24D,
+    0x24E,
+    0x24F,
+    0x250,
+    0x251,
+    0x252,
+    0x253,
+    0x254,
+    0x255,
+    0x256,
+    0x257,
+    0x258,
+    0x34D,
+    0x34E,
+    0x34F,
+];
+
+// Both ends of the window, of the entries in use at each depth, and a high bit.
+const SELECTIONS: [u64; 13] = [
+    0x1FF,
+    0x200,
+    0x20F,
+    0x210,
+    0x21F,
+    0x220,
+    0x23F,
+    0x240,
+    0x27F,
+    0x280,
+    0x2FF,
+    0x300,
+    0x8000_0000_0000_0200,
+];
+
+fn flag(b: bool) -> u64 {
+    if b { 1 } else { 0 }
+}
+
+fn mode_of(code: u64) -> Mode {
+    match code {
+        0 => Mode::U,
+        1 => Mode::S,
+        2 => Mode::M,
+        3 => Mode::VU,
+        _ => Mode::VS,
+    }
+}
+
+fn mode_code(m: Mode) -> u64 {
+    match m {
+        Mode::U => 0,
+        Mode::S => 1,
+        Mode::M => 2,
+        Mode::VU => 3,
+        Mode::VS => 4,
+    }
+}
+
+fn operation_of(code: u64) -> Operation {
+    match code {
+        0 => Operation::Read,
+        1 => Operation::Write,
+        2 => Operation::Set,
+        _ => Operation::Clear,
+    }
+}
+
+fn digest_registers(h: u64, r: Registers) -> u64 {
+    let m = r.mode;
+    let mut d = digest(h, mode_code(m));
+    d = digest(d, r.mctrctl);
+    d = digest(d, r.vsctrctl);
+    d = digest(d, r.sctrdepth);
+    d = digest(d, r.wrptr);
+    d = digest(d, flag(r.frozen));
+    d = digest(d, r.siselect);
+    d = digest(d, r.vsiselect);
+    d = digest(d, flag(r.mstateen0));
+    digest(d, flag(r.hstateen0))
+}
+
+fn digest_entry(h: u64, e: Entry) -> u64 {
+    digest(digest(digest(h, e.ctrsource), e.ctrtarget), e.ctrdata)
+}
+
+// The entry in focus after an effect.
+fn after(old: Entry, effect: Effect) -> Entry {
+    match effect {
+        Effect::Keep => old,
+        Effect::Put(e) => e,
+        Effect::Clear => Entry {
+            ctrsource: 0,
+            ctrtarget: 0,
+            ctrdata: 0,
+        },
+    }
+}
+
+fn tallied(run: Run, d: Decision) -> Run {
+    let mut next = run;
+    let k = (d.number % 6) as usize;
+    next.counts[k] = std::num::wrapping_add_u64(next.counts[k], 1);
+    next.answers = digest(digest(next.answers, d.number), d.value);
+    let r = d.registers;
+    next.registers = digest_registers(next.registers, r);
+    let old = run.last;
+    let effect = d.effect;
+    next.entries = digest_entry(next.entries, after(old, effect));
+    next
+}
+
+// Often no bits, all bits or few bits.
+fn operand_of(x: u64) -> u64 {
+    match x >> 62 {
+        0 => 0,
+        1 => 0xFFFF_FFFF_FFFF_FFFF,
+        2 => x % 1024,
+        _ => x,
+    }
+}
+
+// One access, with an operand and an entry of its own; number 5 is looked for first.
+fn accessed(run: Run, r: Registers, number: u64, operation: u64) -> Run {
+    let x = xorshift64(run.random);
+    let a = xorshift64(x);
+    let b = xorshift64(a);
+    let c = xorshift64(b);
+    let e = Entry {
+        ctrsource: a,
+        ctrtarget: b,
+        ctrdata: c,
+    };
+    let mut next = run;
+    next.random = c;
+    next.last = e;
+    if machine::regs::is_good(r) {
+        let o = operation_of(operation);
+        tallied(
+            next,
+            access::accesses::access(r, e, o, number, operand_of(x)),
+        )
+    } else {
+        tallied(next, machine::answers::refuse(r, 5))
+    }
+}
+
+// All four operations on a number.
+fn operated(run: Run, r: Registers, number: u64) -> Run {
+    let mut next = run;
+    for k in 0..4 {
+        next = accessed(next, r, number, k);
+    }
+    next
+}
+
+// All numbers.
+fn numbered(run: Run, r: Registers) -> Run {
+    let mut next = run;
+    for k in 0..30 {
+        next = operated(next, r, NUMBERS[k]);
+    }
+    next
+}
+
+// SCTRCLR and the host's event, with the last entry.
+fn others(run: Run, r: Registers) -> Run {
+    let x = run.random;
+    if machine::regs::is_good(r) {
+        let next = tallied(run, access::accesses::sctrclr(r));
+        tallied(
+            next,
+            access::accesses::host(r, bits::bit(x, 0), bits::bit(x, 1)),
+        )
+    } else {
+        let next = tallied(run, machine::answers::refuse(r, 5));
+        tallied(next, machine::answers::refuse(r, 5))
+    }
+}
+
+fn selected(r: Registers, j: usize, s: u64) -> Registers {
+    let mut q = r;
+    let a = j % 13;
+    let b = ((2 * (j as u64 % 13) + s % 13) % 13) as usize;
+    q.siselect = SELECTIONS[a];
+    q.vsiselect = SELECTIONS[b];
+    q
+}
+
+// All selections.
+fn windowed(run: Run, r: Registers, s: u64) -> Run {
+    let mut next = run;
+    for j in 0..13 {
+        let q = selected(r, j, s);
+        next = others(numbered(next, q), q);
+    }
+    next
+}
+
+// All settings of the state enables.
+fn enabled(run: Run, r: Registers, s: u64) -> Run {
+    let mut next = run;
+    for e in 0u64..4 {
+        let q = machine::regs::with_stateen(r, e % 2 == 1, e / 2 == 1);
+        next = windowed(next, q, s);
+    }
+    next
+}
+
+fn vsctrctl_of(s: u64, x: u64) -> u64 {
+    match s % 16 {
+        6 => 4,
+        14 => x,
+        _ => x & SCTRCTL_MASK,
+    }
+}
+
+fn wrptr_of(s: u64, x: u64) -> u64 {
+    let depth = machine::regs::depth(s % 5);
+    match s % 16 {
+        5 => depth,
+        13 => x % 256,
+        _ => machine::regs::wrapped(x, s % 5),
+    }
+}
+
+fn mctrctl_of(s: u64, x: u64) -> u64 {
+    if s % 8 == 7 { x } else { x & MCTRCTL_MASK }
+}
+
+// State s of a mode.
+fn swept_state(run: Run, mode: Mode, s: u64) -> Run {
+    let a = xorshift64(run.random);
+    let b = xorshift64(a);
+    let c = xorshift64(b);
+    let mut next = run;
+    next.random = c;
+    let r = Registers {
+        mode,
+        mctrctl: mctrctl_of(s, a),
+        vsctrctl: vsctrctl_of(s, b),
+        sctrdepth: s % 5,
+        wrptr: wrptr_of(s, c),
+        frozen: s % 2 == 1,
+        siselect: 0,
+        vsiselect: 0,
+        mstateen0: false,
+        hstateen0: false,
+    };
+    enabled(next, r, s)
+}
+
+fn swept(mode: Mode) -> Run {
+    let mut run = Run {
+        random: SEED,
+        last: Entry {
+            ctrsource: 0,
+            ctrtarget: 0,
+            ctrdata: 0,
+        },
+        counts: [0; 6],
+        answers: 0,
+        registers: 0,
+        entries: 0,
+    };
+    for s in 0..40 {
+        run = swept_state(run, mode, s);
+    }
+    run
+}
+
+fn put_digest(out: &mut [u8], at: usize, name: &[u8], h: u64) -> usize {
+    let mut next = text::put(out, at, name);
+    next = text::put_hex(out, next, h, 16);
+    text::put_byte(out, next, b'\n')
+}
+
+fn put_count(out: &mut [u8], at: usize, k: usize, count: u64) -> usize {
+    let mut next = text::put(out, at, b"  number ");
+    next = text::put_decimal(out, next, k as u64);
+    next = text::put_byte(out, next, b' ');
+    next = text::put_decimal(out, next, count);
+    text::put_byte(out, next, b'\n')
+}
+
+fn put_counts(out: &mut [u8], at: usize, counts: [u64; 6]) -> usize {
+    let mut next = at;
+    for k in 0..6 {
+        next = put_count(out, next, k, counts[k]);
+    }
+    next
+}
+
+fn report_mode(name: &[u8], mode: Mode) {
+    let run = swept(mode);
+    let mut out = [0u8; 1024];
+    let mut at = text::put(&mut out, 0, name);
+    let counts = run.counts;
+    at = put_counts(&mut out, at, counts);
+    at = put_digest(&mut out, at, b"  answers 0x", run.answers);
+    at = put_digest(&mut out, at, b"  registers 0x", run.registers);
+    at = put_digest(&mut out, at, b"  entries 0x", run.entries);
+    io::write_all(STDOUT_FILENO, text::before(&out, at));
+}
+
+// The places of all logical entries under one WRPTR.
+fn places(h: u64, code: u64, wrptr: u64) -> u64 {
+    let depth = machine::regs::depth(code);
+    let mut next = h;
+    let mut i: u64 = 0;
+    while i < depth {
+        next = digest(next, machine::regs::physical(code, wrptr, i));
+        i += 1;
+    }
+    next
+}
+
+// The same under all WRPTRs.
+fn all_places(code: u64) -> u64 {
+    let depth = machine::regs::depth(code);
+    let mut next: u64 = 0;
+    let mut wrptr: u64 = 0;
+    while wrptr < depth {
+        next = places(next, code, wrptr);
+        wrptr += 1;
+    }
+    next
+}
+
+fn report_depth(code: u64) {
+    let mut out = [0u8; 64];
+    let mut at = text::put(&mut out, 0, b"  depth ");
+    at = text::put_decimal(&mut out, at, machine::regs::depth(code));
+    at = put_digest(&mut out, at, b" 0x", all_places(code));
+    io::write_all(STDOUT_FILENO, text::before(&out, at));
+}
+
+fn main() {
+    report_mode(b"mode U\n", Mode::U);
+    report_mode(b"mode S\n", Mode::S);
+    report_mode(b"mode M\n", Mode::M);
+    report_mode(b"mode VU\n", Mode::VU);
+    report_mode(b"mode VS\n", Mode::VS);
+    io::write_all(STDOUT_FILENO, b"logical entries\n");
+    report_depth(0);
+    report_depth(1);
+    report_depth(2);
+    report_depth(3);
+}
