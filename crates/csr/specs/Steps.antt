@@ -117,13 +117,17 @@ step3 r t = not (isM (r .mode)) && (not (r .mstateen0) && t .gated)
 unfoldable pub step5 : Registers → Target → Bool
 step5 r t = isVS (r .mode) && (t .hypervisors || (not (r .hstateen0) && t .gated))
 
--- the number of the first step that applies; 0 where the access is granted
-unfoldable pub refusalOf : Registers → Target → ℕ
-refusalOf r t =
-    if t .unlisted then 3
-    else (if step2 r t then 1
-    else (if step3 r t then 1
-    else (if isVU (r .mode) then 2
-    else (if step5 r t then 2
-    else (if t .outside then 3
+-- the number of the first step that applies; 0 where none does
+unfoldable pub firstStep : Bool → Bool → Bool → Bool → Bool → Bool → ℕ
+firstStep one two three four five six =
+    if one then 3
+    else (if two then 1
+    else (if three then 1
+    else (if four then 2
+    else (if five then 2
+    else (if six then 3
     else 0)))))
+
+-- why an access is refused: 1. unlisted; 2. and 3. as above; 4. from VU; 5. as above; 6. an ireg outside the window
+unfoldable pub refusalOf : Registers → Target → ℕ
+refusalOf r t = firstStep (t .unlisted) (step2 r t) (step3 r t) (isVU (r .mode)) (step5 r t) (t .outside)

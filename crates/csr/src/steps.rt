@@ -1,7 +1,7 @@
 // The access steps.
 ghost use mathlib.Core.Path.{_≡_};
 ghost use mathlib.Core.Bool.{not};
-ghost use Rattle.csr.specs.Steps.{selectionOf, inWindow, gatedOf, outsideOf, isHypervisors, isUnlisted, isMctrctl, targetOf, step2, step3, step5, refusalOf};
+ghost use Rattle.csr.specs.Steps.{selectionOf, inWindow, gatedOf, outsideOf, isHypervisors, isUnlisted, isMctrctl, targetOf, step2, step3, step5, firstStep, refusalOf};
 use crate::Register;
 use crate::Target;
 use crate::numbers::meant;
@@ -193,25 +193,37 @@ fn by_step5(r: Registers, t: Target) -> bool
 }
 
 // The number of the first step that applies, or 0.
-pub fn refusal(r: Registers, t: Target) -> u64
-    ensures { λ n. ⌜ n ≡ refusalOf r t ⌝ }
+fn first_step(one: bool, two: bool, three: bool, four: bool, five: bool, six: bool) -> u64
+    ensures { λ n. ⌜ n ≡ firstStep one two three four five six ⌝ }
 {
-    let m = r.mode;
-    let unlisted = t.unlisted;
-    let outside = t.outside;
-    if unlisted {
+    if one {
         3
-    } else if by_step2(r, t) {
+    } else if two {
         1
-    } else if by_step3(r, t) {
+    } else if three {
         1
-    } else if is_vu(m) {
+    } else if four {
         2
-    } else if by_step5(r, t) {
+    } else if five {
         2
-    } else if outside {
+    } else if six {
         3
     } else {
         0
     }
+}
+
+// Why an access is refused: the number of the first step that applies, or 0.
+pub fn refusal(r: Registers, t: Target) -> u64
+    ensures { λ n. ⌜ n ≡ refusalOf r t ⌝ }
+{
+    let m = r.mode;
+    first_step(
+        t.unlisted,
+        by_step2(r, t),
+        by_step3(r, t),
+        is_vu(m),
+        by_step5(r, t),
+        t.outside,
+    )
 }

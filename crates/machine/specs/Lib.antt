@@ -3,3 +3,4 @@ pub mod Modes
 pub mod Filters
 pub mod Regs
 pub mod Answers
+pub mod Places

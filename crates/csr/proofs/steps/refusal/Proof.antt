@@ -1,6 +1,5 @@
 -- `csr::steps::refusal` meets its contract. Assumes nothing.
 use Rattle.csr.specs.Steps.{refusalOf}
-use Rattle.bits.proofs.Picks.{picks}
 use Rattle.csr.proofs.steps.refusal.Statement.{statement}
 use Rattle.csr.proofs.steps.refusal.Tie as tie
 
@@ -13,10 +12,5 @@ refusal-spec =
     (λ c κs. tt)
     (λ c κs. tt)
     (λ c κs. tt)
-    (λ c. search picks depth 9)
-    (λ c. search picks depth 9)
-    (λ c. search picks depth 9)
-    (λ c. search picks depth 9)
-    (λ c. search picks depth 9)
-    (λ c. search picks depth 9)
-    (λ c. search picks depth 9))
+    (λ c κs. tt)
+    (λ c. cc))
