@@ -1,3 +1,4 @@
 pub mod Readings
 pub mod Writes
 pub mod Accesses
+pub mod Laws

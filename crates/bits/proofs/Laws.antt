@@ -1,5 +1,5 @@
 -- Fields of a word of any width, and what a mask does to a single bit, once for every mask and position. Assumes nothing.
-use mathlib.Core.Path.{_≡_, refl, sym, _∙_}
+use mathlib.Core.Path.{_≡_, refl, sym, ap, _∙_}
 use Prim.Native.Nat.{ℕ, suc, _-_, _*_, _/_, _%_, _^_, _≤_, _<_, min, max}
 use native.Mathlib.Nat.{mod-eq-of-lt, div-eq-of-lt, div-le-self, div-div-eq-div-mul, pow-succ'}
 use native.Mathlib.Omega.{arith}
@@ -90,3 +90,13 @@ keep-joined a b x y e =
     (λ n.
     let z : bitAt (keep a b) n ≡ 0 = rw e (zero-bit n) in
     omega (arith, z, bit-keep a (joined (keep a x) (keep b y)) n, bit-joined (keep a x) (keep b y) n, bit-keep a x n, bit-keep b y n, bit-keep a b n))
+
+-- two words joined under masks stay under a mask that has both
+pub keep-of-joined : (m a b x y : ℕ) → keep m a ≡ a → keep m b ≡ b
+    → keep m (joined (keep a x) (keep b y)) ≡ joined (keep a x) (keep b y)
+keep-of-joined m a b x y p q =
+    same-bits _ _
+    (λ n.
+    let u : bitAt a n ≤ bitAt m n = omega (arith, bit-keep m a n, ap (λ (z : ℕ). bitAt z n) p) in
+    let v : bitAt b n ≤ bitAt m n = omega (arith, bit-keep m b n, ap (λ (z : ℕ). bitAt z n) q) in
+    omega (arith, u, v, bit-keep m (joined (keep a x) (keep b y)) n, bit-joined (keep a x) (keep b y) n, bit-keep a x n, bit-keep b y n))

@@ -2,12 +2,13 @@
 -- row that the code answers has the word. Assumes nothing.
 use mathlib.Core.Path.{_≡_, refl, sym, ap, _∙_}
 use mathlib.Core.Bool.{Bool, true, false, and-false}
-use mathlib.Core.Logic.{_⊎_, inl, inr}
+use mathlib.Core.Logic.{inl, inr}
 use Prim.Native.Nat.{ℕ, _%_}
 use native.Mathlib.Omega.{arith}
 use lib.Dec.{eqb}
-use borrow.Author.Tests.{eqb-true, eqb-false, ne-eqb}
+use borrow.Author.Tests.{eqb-false, ne-eqb}
 use Rattle.bits.specs.Choice.{if_then_else_}
+use Rattle.bits.proofs.Cases.{Known, known}
 use Rattle.classifier.specs.Instructions.{opcode, rd, funct3, rs1, C·op, C·funct3, C·funct4, C·rs1, C·rs2}
 use Rattle.classifier.specs.Transfers.{isBranch, isIndirectCall, isDirectCall, isIndirectJump, isDirectJump, isCoroutineSwap, isFunctionReturn, isOtherIndirectJump, isOtherDirectJump, transferOf, typeOf}
 use Rattle.classifier.specs.Decision.{branchBy, indirectBy, directBy, jalrBy, wideBy, quadrant1By, registerJumpBy, quadrant2By}
@@ -56,18 +57,6 @@ only n = record {
 abbrev pub Sorted : ℕ → Transfer → Type 0
 Sorted w t = rowsOf w ≡ only (typeOf t true)
 
--- a number is k, or the test for k fails
-Known : ℕ → ℕ → Type 0
-Known n k = (n ≡ k) ⊎ (eqb n k ≡ false)
-
-known : (n k : ℕ) → Known n k
-unfolding Known
-known n k = go (eqb n k) refl
-  where
-    go : (b : Bool) → eqb n k ≡ b → (n ≡ k) ⊎ (eqb n k ≡ false)
-    go true h = inl (eqb-true n k h)
-    go false h = inr h
-
 -- the opcode of a 16-bit instruction is none of ours, since each of those ends in 11
 module _ (w : ℕ) (narrow : C·op w ≡ 3 → ⊥) where
   no-opcode : (k : ℕ) → k % 4 ≡ 3 → eqb (opcode w) k ≡ false
@@ -90,7 +79,7 @@ module _ (w : ℕ) (narrow : C·op w ≡ 3 → ⊥) where
 
   quadrant1 : C·op w ≡ 1 → Known (C·funct3 w) 5 → Known (C·funct3 w) 6 → Known (C·funct3 w) 7
       → Sorted w (quadrant1By (C·funct3 w))
-  unfolding rowsOf quadrant1By directBy Known
+  unfolding rowsOf quadrant1By directBy
   quadrant1 h (inl a) b c = simp (no-wide, h, a)
   quadrant1 h (inr a) (inl b) c = simp (no-wide, h, b)
   quadrant1 h (inr a) (inr b) (inl c) = simp (no-wide, h, c)
@@ -103,7 +92,7 @@ module _ (w : ℕ) (narrow : C·op w ≡ 3 → ⊥) where
   quadrant2 : C·op w ≡ 2 → Known (C·rs1 w) 0 → Known (C·rs2 w) 0
       → Known (C·funct4 w) 8 → Known (C·funct4 w) 9 → Known (C·rs1 w) 1 → Known (C·rs1 w) 5
       → Sorted w (quadrant2By (C·funct4 w) (C·rs1 w) (C·rs2 w))
-  unfolding rowsOf quadrant2By registerJumpBy indirectBy Known
+  unfolding rowsOf quadrant2By registerJumpBy indirectBy
   quadrant2 h (inl s) t f g a b = simp (no-wide, h, s, and-false)
   quadrant2 h (inr s) (inr t) f g a b = simp (no-wide, h, s, t, and-false)
   quadrant2 h (inr s) (inl t) (inl f) g (inl a) b = simp (no-wide, h, t, f, a)
@@ -122,7 +111,7 @@ module _ (w : ℕ) (h : C·op w ≡ 3) where
   branches : opcode w ≡ 0x63 → Known (funct3 w) 0 → Known (funct3 w) 1 → Known (funct3 w) 4
       → Known (funct3 w) 5 → Known (funct3 w) 6 → Known (funct3 w) 7
       → Sorted w (branchBy (funct3 w))
-  unfolding rowsOf branchBy Known
+  unfolding rowsOf branchBy
   branches o (inl a) b c d e f = simp (h, o, a)
   branches o (inr a) (inl b) c d e f = simp (h, o, b)
   branches o (inr a) (inr b) (inl c) d e f = simp (h, o, c)
@@ -134,7 +123,7 @@ module _ (w : ℕ) (h : C·op w ≡ 3) where
   -- JALR, by rd and rs1
   jumps : opcode w ≡ 0x67 → funct3 w ≡ 0 → Known (rd w) 0 → Known (rd w) 1 → Known (rd w) 5 → Known (rs1 w) 1 → Known (rs1 w) 5
       → Sorted w (indirectBy (rd w) (rs1 w))
-  unfolding rowsOf indirectBy Known
+  unfolding rowsOf indirectBy
   jumps o f (inl z) a b (inl c) d = simp (h, o, f, z, c)
   jumps o f (inl z) a b (inr c) (inl d) = simp (h, o, f, z, d)
   jumps o f (inl z) a b (inr c) (inr d) = simp (h, o, f, z, c, d)
@@ -153,12 +142,12 @@ module _ (w : ℕ) (h : C·op w ≡ 3) where
   reserved o f = simp (h, o, f)
 
   jalr : opcode w ≡ 0x67 → Known (funct3 w) 0 → Sorted w (jalrBy (funct3 w) (rd w) (rs1 w))
-  unfolding jalrBy Known
+  unfolding jalrBy
   jalr o (inl f) = rw f (jumps o f (known _ 0) (known _ 1) (known _ 5) (known _ 1) (known _ 5))
   jalr o (inr f) = rw f (reserved o f)
 
   jal : opcode w ≡ 0x6F → Known (rd w) 0 → Known (rd w) 1 → Known (rd w) 5 → Sorted w (directBy (rd w))
-  unfolding rowsOf directBy Known
+  unfolding rowsOf directBy
   jal o (inl z) a b = simp (h, o, z)
   jal o (inr z) (inl a) b = simp (h, o, a)
   jal o (inr z) (inr a) (inl b) = simp (h, o, b)
@@ -170,7 +159,7 @@ module _ (w : ℕ) (h : C·op w ≡ 3) where
 
   wide : Known (opcode w) 0x63 → Known (opcode w) 0x67 → Known (opcode w) 0x6F
       → Sorted w (wideBy (opcode w) (funct3 w) (rd w) (rs1 w))
-  unfolding wideBy Known
+  unfolding wideBy
   wide (inl o) p q = rw o (branches o (known _ 0) (known _ 1) (known _ 4) (known _ 5) (known _ 6) (known _ 7))
   wide (inr o) (inl p) q = rw p (jalr p (known _ 0))
   wide (inr o) (inr p) (inl q) = rw q (jal q (known _ 0) (known _ 1) (known _ 5))
@@ -215,7 +204,6 @@ transfer w t h = sym (chosen-only t) ∙ sym (ap chosen h)
 
 -- exactly the row of a word's transfer has the word
 pub sorted : (w : ℕ) → Sorted w (transferOf w)
-unfolding Known
 sorted w = go (known (C·op w) 1) (known (C·op w) 2) (known (C·op w) 3)
   where
     found : (t : Transfer) → Sorted w t → Sorted w (transferOf w)

@@ -1,13 +1,13 @@
 -- What `Refusals` states, by cases of the mode and of what the steps ask. Assumes nothing.
 use mathlib.Core.Path.{refl}
-use mathlib.Core.Bool.{Bool, true, false}
-use Prim.Native.Nat.{ℕ}
+use mathlib.Core.Bool.{Bool, true, false, and-false}
 use native.Mathlib.Omega.{arith}
 use Rattle.machine.specs.declared.Mode.{Mode}
 use Rattle.machine.specs.declared.Mode.the-variants.{U, S, M, VU, VS}
 use Rattle.machine.specs.declared.Registers.{Registers}
-use Rattle.csr.specs.Steps.{step2, step3, step5, firstStep, refusalOf}
-use Rattle.csr.specs.Refusals.{Refusals}
+use Rattle.csr.specs.Numbers.{meantOf}
+use Rattle.csr.specs.Steps.{gatedOf, outsideOf, targetOf, step2, step3, step5, firstStep, refusalOf}
+use Rattle.csr.specs.Refusals.{Refusals, Selects}
 use Rattle.csr.specs.declared.Target.{Target}
 
 -- the registers and the target of these parts
@@ -56,3 +56,11 @@ cases r VS false false false g false true true = record { illegal = refl; virtua
 
 pub refusals : (r : Registers) (t : Target) → Refusals r t
 refusals r t = cases r (r .mode) (t .unlisted) (t .mctrctl) (t .hypervisors) (t .gated) (t .outside) (r .mstateen0) (r .hstateen0)
+
+pub selects : (r : Registers) → Selects r
+unfolding refusalOf firstStep step2 step3 step5 targetOf gatedOf outsideOf meantOf
+selects r =
+    record {
+      from-S = (λ e. (simp (e, and-false), simp (e, and-false)));
+      from-VS = (λ e. (simp (e, and-false), simp (e, and-false)));
+    }

@@ -1,11 +1,13 @@
 -- When each number is given, said without the order of the steps. Proved in proofs/.
-use Prim.Native.Nat.{ℕ, _≤_}
+use Prim.Native.Nat.{_≤_}
 use mathlib.Core.Path.{_≡_}
 use mathlib.Core.Bool.{Bool, not, _&&_, _||_}
 use lib.Dec.{eqb}
 use Rattle.machine.specs.Modes.{isU, isM, isVU, isVS}
+use Rattle.machine.specs.declared.Mode.the-variants.{S, VS}
 use Rattle.machine.specs.declared.Registers.{Registers}
-use Rattle.csr.specs.Steps.{refusalOf}
+use Rattle.csr.specs.Steps.{targetOf, refusalOf}
+use Rattle.csr.specs.declared.Register.the-variants.{Siselect, Vsiselect}
 use Rattle.csr.specs.declared.Target.{Target}
 
 -- 1, illegal instruction: the number is listed, and the access is from U, or to mctrctl below M, or below M to a gated target
@@ -34,3 +36,8 @@ pub record Refusals (r : Registers) (t : Target) : Type 0 where
   pub virtual : eqb (refusalOf r t) 2 ≡ isVirtualInstruction r t
   pub missing : eqb (refusalOf r t) 3 ≡ isMissing r t
   pub no-other : refusalOf r t ≤ 3
+
+-- the state enables are not asked of the select registers: S reaches both, and VS siselect, whatever they are
+pub record Selects (r : Registers) : Type 0 where
+  pub from-S : r .mode ≡ S → (refusalOf r (targetOf r Siselect) ≡ 0) × (refusalOf r (targetOf r Vsiselect) ≡ 0)
+  pub from-VS : r .mode ≡ VS → (refusalOf r (targetOf r Siselect) ≡ 0) × (refusalOf r (targetOf r Vsiselect) ≡ 2)

@@ -52,7 +52,7 @@ fn gated(r: Registers, g: Register) -> bool
         Register::Vsctrctl => true,
         Register::Sctrdepth => true,
         Register::Sctrstatus => true,
-        Register::Siselect => false,
+        Register::Siselect => false, // select registers are not gated
         Register::Vsiselect => false,
         Register::Sireg(_) => in_window(r.siselect),
         Register::Vsireg(_) => in_window(r.vsiselect),

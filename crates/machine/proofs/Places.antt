@@ -1,6 +1,6 @@
 -- What `Places` states. Assumes nothing.
 use mathlib.Core.Path.{_≡_, refl, ap, _∙_}
-use Prim.Native.Nat.{ℕ, suc, _+_, _-_, _*_, _/_, _%_, _≤_, _<_}
+use Prim.Native.Nat.{ℕ, suc, _+_, _-_, _*_, _/_, _%_, _<_}
 use native.Mathlib.Nat.{mod-lt, mod-mod, mod-add-mod, mod-add-div', add-mul-mod-self-right, suc-mul}
 use native.Mathlib.Omega.{arith}
 use Rattle.bits.specs.Words.{keep}

@@ -1,0 +1,2 @@
+-- What holds of register accesses.
+pub mod Laws
