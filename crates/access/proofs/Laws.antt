@@ -1,6 +1,6 @@
 -- What `Laws` and `OtherWords` state. Assumes nothing.
 use mathlib.Core.Path.{_≡_, refl}
-use mathlib.Core.Bool.{Bool, true, false, _&&_}
+use mathlib.Core.Bool.{Bool, true, false, not, _&&_}
 use mathlib.Core.Logic.{_≢_, inl, inr}
 use Prim.Native.Nat.{ℕ, _%_, _≤_, _<_, min}
 use native.Mathlib.Nat.{mod-lt, mod-eq-of-lt}
@@ -18,6 +18,7 @@ use Rattle.machine.proofs.Depths.{depth-pos, wrapped-lt}
 use Rattle.machine.proofs.Good.{Good, parts, whole}
 use Rattle.machine.specs.declared.Registers.{Registers}
 use Rattle.machine.specs.declared.Entry.{Entry}
+use Rattle.machine.specs.declared.Effect.{Effect}
 use Rattle.machine.specs.declared.Effect.the-variants.{Keep, Put}
 use Rattle.machine.specs.declared.Decision.{Decision}
 use Rattle.csr.specs.Numbers.{registerOf, meantOf}
@@ -27,7 +28,7 @@ use Rattle.csr.specs.declared.Register.the-variants.{Mctrctl, Sctrctl, Vsctrctl
 use Rattle.access.specs.Readings.{statusOf, wordOf, isEntry, entryReading, readingOf}
 use Rattle.access.specs.Writes.{sctrctlWritten, sctrdepthWritten, sctrstatusWritten, withWord, entryWritten, writeOf}
 use Rattle.access.specs.Accesses.{operatedOf, grantedOf, unlessRefused, accessTo, accessOf, sctrclrOf, hostOf}
-use Rattle.access.specs.Laws.{Unchanged, entryAfter, putsOf, wordIndex, legalWord, legalOf, Laws, OtherWords}
+use Rattle.access.specs.Laws.{Unchanged, entryAfter, putsOf, wordIndex, legalWord, legalOf, operandOf, isRead, effectOf, Laws, OtherWords}
 use Rattle.access.specs.declared.Operation.{Operation}
 use Rattle.access.specs.declared.Operation.the-variants.{Read, Write, Set, Clear}
 
@@ -124,6 +125,60 @@ unless n r d e h = go (eqb n 0) h
     go : (b : Bool) → ((if b then d else refused r n) .number ≡ 0 → ⊥) → Unchanged r (if b then d else refused r n)
     go true k = absurd (k e)
     go false k = (refl, refl, refl)
+
+-- the number, the effect and the registers of such a decision
+unless-number : (n : ℕ) (r : Registers) (d : Decision) → d .number ≡ 0 → unlessRefused n r d .number ≡ n
+unless-number n r d e = go (known n 0)
+  where
+    go : Known n 0 → unlessRefused n r d .number ≡ n
+    go (inl z) = rw z e
+    go (inr z) = rw z
+
+unless-effect : (n : ℕ) (r : Registers) (d : Decision) (a : Bool) (p : Effect)
+    → d .effect ≡ (if a then p else Keep) → unlessRefused n r d .effect ≡ (if eqb n 0 && a then p else Keep)
+unless-effect n r d a p e = go (eqb n 0)
+  where
+    go : (b : Bool) → (if b then d else refused r n) .effect ≡ (if b && a then p else Keep)
+    go true = e
+    go false = refl
+
+access-number : (r : Registers) (old : Entry) (o : Operation) (number x : ℕ)
+    → accessOf r old o number x .number ≡ refusalOf r (targetOf r (registerOf number))
+unfolding accessOf accessTo grantedOf
+access-number r old o number x =
+    let g = registerOf number in
+    let m = meantOf (r .mode) g in
+    unless-number (refusalOf r (targetOf r g)) r (grantedOf r old m o x) (operated-number r old m o (readingOf r old m) x)
+
+clear-number : (r : Registers) → sctrclrOf r .number ≡ refusalOf r sctrclrTarget
+unfolding sctrclrOf
+clear-number r = unless-number (refusalOf r sctrclrTarget) r (answeredClear r) refl
+
+clear-registers : (r : Registers) → sctrclrOf r .registers ≡ r
+unfolding sctrclrOf
+clear-registers r = go (eqb (refusalOf r sctrclrTarget) 0)
+  where
+    go : (b : Bool) → (if b then answeredClear r else refused r (refusalOf r sctrclrTarget)) .registers ≡ r
+    go true = refl
+    go false = refl
+
+operated-effect : (r : Registers) (old : Entry) (g : Register) (o : Operation) (v x : ℕ)
+    → operatedOf r old g o v x .effect ≡ (if not (isRead o) && putsOf r g then Put (withWord old (wordIndex g) (operandOf o v x)) else Keep)
+unfolding operatedOf
+operated-effect r old g Read v x = refl
+operated-effect r old g Write v x = puts r old g v x
+operated-effect r old g Set v x = puts r old g v (joined v x)
+operated-effect r old g Clear v x = puts r old g v (without v x)
+
+effects : (r : Registers) (old : Entry) (o : Operation) (number x : ℕ)
+    → accessOf r old o number x .effect ≡ effectOf r old (registerOf number) (meantOf (r .mode) (registerOf number)) o x
+unfolding accessOf accessTo grantedOf
+effects r old o number x =
+    let g = registerOf number in
+    let m = meantOf (r .mode) g in
+    let v = readingOf r old m in
+    unless-effect (refusalOf r (targetOf r g)) r (grantedOf r old m o x) (not (isRead o) && putsOf r m) (Put (withWord old (wordIndex m) (operandOf o v x)))
+    (operated-effect r old m o v x)
 
 refused-access : (r : Registers) (old : Entry) (o : Operation) (number x : ℕ)
     → (accessOf r old o number x .number ≡ 0 → ⊥) → Unchanged r (accessOf r old o number x)
@@ -253,10 +308,13 @@ good-host r m h e =
 pub laws : Laws
 laws =
     record {
+      access-number = access-number;
+      clear-number = clear-number;
       refused-access = refused-access;
       refused-clear = refused-clear;
       read-only = read-only;
-      puts = puts;
+      clear-registers = clear-registers;
+      effects = effects;
       write-read = write-read;
       good-access = good-access;
       good-clear = good-clear;

@@ -1,24 +1,26 @@
 -- What holds of register accesses. Proved in proofs/.
 use Prim.Native.Nat.{ℕ, _+_, _*_, _/_, _%_, min}
 use mathlib.Core.Path.{_≡_}
-use mathlib.Core.Bool.{Bool, true, false, _&&_}
+use mathlib.Core.Bool.{Bool, true, false, not, _&&_}
 use lib.Dec.{eqb, ltb}
 use Rattle.bits.specs.Choice.{if_then_else_}
-use Rattle.bits.specs.Words.{bitAt, keep}
+use Rattle.bits.specs.Words.{bitAt, keep, joined, without}
 use Rattle.machine.specs.Controls.{mctrctlMask, sctrctlMask}
 use Rattle.machine.specs.Regs.{topCode, depthOf, goodOf}
 use Rattle.machine.specs.declared.Registers.{Registers}
 use Rattle.machine.specs.declared.Entry.{Entry}
 use Rattle.machine.specs.declared.Effect.{Effect}
-use Rattle.machine.specs.declared.Effect.the-variants.{Keep, Put, Clear}
+use Rattle.machine.specs.declared.Effect.the-variants.{Keep, Put, ClearAll}
 use Rattle.machine.specs.declared.Decision.{Decision}
+use Rattle.csr.specs.Numbers.{registerOf, meantOf}
+use Rattle.csr.specs.Steps.{targetOf, sctrclrTarget, refusalOf}
 use Rattle.csr.specs.declared.Register.{Register}
 use Rattle.csr.specs.declared.Register.the-variants.{Mctrctl, Sctrctl, Vsctrctl, Sctrdepth, Sctrstatus, Siselect, Vsiselect, Sireg, Vsireg, Unlisted}
 use Rattle.access.specs.Readings.{frozenBit, isEntry, readingOf}
 use Rattle.access.specs.Writes.{withWord, writeOf}
 use Rattle.access.specs.Accesses.{accessOf, sctrclrOf, hostOf}
 use Rattle.access.specs.declared.Operation.{Operation}
-use Rattle.access.specs.declared.Operation.the-variants.{Read}
+use Rattle.access.specs.declared.Operation.the-variants.{Read, Write, Set, Clear}
 
 -- nothing is changed, and the value is 0
 abbrev pub Unchanged : Registers → Decision → Type 0
@@ -28,7 +30,7 @@ Unchanged r d = (d .value ≡ 0) × (d .registers ≡ r) × (d .effect ≡ Keep)
 abbrev pub entryAfter : Entry → Effect → Entry
 entryAfter old Keep = old
 entryAfter old (Put e) = e
-entryAfter old Clear = record { ctrsource = 0; ctrtarget = 0; ctrdata = 0 }
+entryAfter old ClearAll = record { ctrsource = 0; ctrtarget = 0; ctrdata = 0 }
 
 -- the entry word that a write puts, where it puts one: word 0, 1 or 2 of an entry below the depth
 abbrev pub putsOf : Registers → Register → Bool
@@ -72,7 +74,36 @@ legalOf r (Sireg k) x = if isEntry r (r .siselect) then legalWord k x else 0
 legalOf r (Vsireg k) x = if isEntry r (r .vsiselect) then legalWord k x else 0
 legalOf r Unlisted x = 0
 
+-- what an operation writes, given the old reading v
+abbrev pub operandOf : Operation → ℕ → ℕ → ℕ
+operandOf Read v x = v
+operandOf Write v x = x
+operandOf Set v x = joined v x
+operandOf Clear v x = without v x
+
+abbrev pub isRead : Operation → Bool
+isRead Read = true
+isRead Write = false
+isRead Set = false
+isRead Clear = false
+
+-- whether an access to a register is granted
+abbrev pub isGranted : Registers → Register → Bool
+isGranted r g = eqb (refusalOf r (targetOf r g)) 0
+
+-- the effect of an access to a register, g by its number and m as it means in the mode: the entry in focus is put where the
+-- access is granted, is no read, and reaches a word of an entry
+abbrev pub effectOf : Registers → Entry → Register → Register → Operation → ℕ → Effect
+effectOf r old g m o x =
+    if isGranted r g && (not (isRead o) && putsOf r m)
+    then Put (withWord old (wordIndex m) (operandOf o (readingOf r old m) x))
+    else Keep
+
 pub record Laws : Type 0 where
+  -- the number of an answer is that of the first step that applies
+  pub access-number : (r : Registers) (old : Entry) (o : Operation) (number x : ℕ)
+      → accessOf r old o number x .number ≡ refusalOf r (targetOf r (registerOf number))
+  pub clear-number : (r : Registers) → sctrclrOf r .number ≡ refusalOf r sctrclrTarget
   -- refused means unchanged, with value 0
   pub refused-access : (r : Registers) (old : Entry) (o : Operation) (number x : ℕ)
       → (accessOf r old o number x .number ≡ 0 → ⊥) → Unchanged r (accessOf r old o number x)
@@ -80,9 +111,11 @@ pub record Laws : Type 0 where
   -- a read changes nothing
   pub read-only : (r : Registers) (old : Entry) (number x : ℕ)
       → (accessOf r old Read number x .registers ≡ r) × (accessOf r old Read number x .effect ≡ Keep)
-  -- a write puts an entry exactly where a register reaches a word of one, and then it is the entry with that word written
-  pub puts : (r : Registers) (old : Entry) (g : Register) (v x : ℕ)
-      → writeOf r old g v x .effect ≡ (if putsOf r g then Put (withWord old (wordIndex g) x) else Keep)
+  -- SCTRCLR leaves the registers as they are, WRPTR and FROZEN too
+  pub clear-registers : (r : Registers) → sctrclrOf r .registers ≡ r
+  -- which accesses put an entry, and which word of it
+  pub effects : (r : Registers) (old : Entry) (o : Operation) (number x : ℕ)
+      → accessOf r old o number x .effect ≡ effectOf r old (registerOf number) (meantOf (r .mode) (registerOf number)) o x
   -- a write and then a read of the same register give the legal value of what was written
   pub write-read : (r : Registers) (old : Entry) (g : Register) (v x : ℕ)
       → readingOf (writeOf r old g v x .registers) (entryAfter old (writeOf r old g v x .effect)) g ≡ legalOf r g x

@@ -130,7 +130,7 @@ fn after(old: Entry, effect: Effect) -> Entry {
     match effect {
         Effect::Keep => old,
         Effect::Put(e) => e,
-        Effect::Clear => Entry {
+        Effect::ClearAll => Entry {
             ctrsource: 0,
             ctrtarget: 0,
             ctrdata: 0,

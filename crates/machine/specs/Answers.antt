@@ -2,7 +2,7 @@
 use Prim.Native.Nat.{ℕ}
 use Rattle.machine.specs.declared.Registers.{Registers}
 use Rattle.machine.specs.declared.Entry.{Entry}
-use Rattle.machine.specs.declared.Effect.the-variants.{Keep, Put, Clear}
+use Rattle.machine.specs.declared.Effect.the-variants.{Keep, Put, ClearAll}
 use Rattle.machine.specs.declared.Decision.{Decision}
 
 -- refused with a number: value 0, nothing changed
@@ -19,4 +19,4 @@ answeredPut r v e = record { number = 0; value = v; registers = r; effect = Put 
 
 -- answered with value 0, and all entries cleared
 abbrev pub answeredClear : Registers → Decision
-answeredClear r = record { number = 0; value = 0; registers = r; effect = Clear }
+answeredClear r = record { number = 0; value = 0; registers = r; effect = ClearAll }

@@ -50,6 +50,6 @@ pub fn answer_clear(r: Registers) -> Decision
         number: 0,
         value: 0,
         registers: r,
-        effect: Effect::Clear,
+        effect: Effect::ClearAll,
     }
 }

@@ -65,7 +65,7 @@ pub struct Entry {
 pub enum Effect {
     Keep,
     Put(Entry),
-    Clear,
+    ClearAll,
 }
 
 // What an event decides, given the registers and the entry in focus.
