@@ -3,11 +3,11 @@
 
 use crate::registers::{listed, Entry, Mode, Register, Registers};
 
-const GRANTED: u8 = 0;
+pub(crate) const GRANTED: u8 = 0;
 const ILLEGAL_INSTRUCTION: u8 = 1;
 const VIRTUAL_INSTRUCTION: u8 = 2;
 const NOT_LISTED: u8 = 3;
-const BAD_STATE: u8 = 5;
+pub(crate) const BAD_STATE: u8 = 5;
 
 #[derive(Clone, Copy, Debug, PartialEq, Eq)]
 pub enum Operation {
@@ -50,14 +50,14 @@ pub struct Answer {
     pub value: u64,
 }
 
-fn granted(value: u64) -> Answer {
+pub(crate) fn granted(value: u64) -> Answer {
     Answer {
         number: GRANTED,
         value,
     }
 }
 
-fn refused(number: u8) -> Answer {
+pub(crate) fn refused(number: u8) -> Answer {
     Answer { number, value: 0 }
 }
 

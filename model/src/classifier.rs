@@ -1,14 +1,14 @@
 //! The type of a retired instruction word, found in a list of masks and patterns.
 
-const NONE: u8 = 0;
-const NOT_TAKEN_BRANCH: u8 = 4;
+pub(crate) const NONE: u8 = 0;
+pub(crate) const NOT_TAKEN_BRANCH: u8 = 4;
 const TAKEN_BRANCH: u8 = 5;
-const INDIRECT_CALL: u8 = 8;
-const DIRECT_CALL: u8 = 9;
+pub(crate) const INDIRECT_CALL: u8 = 8;
+pub(crate) const DIRECT_CALL: u8 = 9;
 const INDIRECT_JUMP: u8 = 10;
 const DIRECT_JUMP: u8 = 11;
-const SWAP: u8 = 12;
-const RETURN: u8 = 13;
+pub(crate) const SWAP: u8 = 12;
+pub(crate) const RETURN: u8 = 13;
 const OTHER_INDIRECT_JUMP: u8 = 14;
 const OTHER_DIRECT_JUMP: u8 = 15;
 

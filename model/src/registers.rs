@@ -181,11 +181,23 @@ impl Registers {
             .is_some_and(|selection| !WINDOW.contains(&selection))
     }
 
-    /// Whether this is sireg* or vsireg*, and selects an entry in use.
-    fn selects_entry(&self, register: Register) -> bool {
+    /// The logical entry that sireg* or vsireg* selects, if it is in use.
+    fn selected_logical_entry(&self, register: Register) -> Option<u64> {
         self.selection(register)
             .and_then(|selection| selection.checked_sub(*WINDOW.start()))
-            .is_some_and(|logical| logical < self.depth())
+            .filter(|logical| *logical < self.depth())
+    }
+
+    /// Whether this is sireg* or vsireg*, and selects an entry in use.
+    fn selects_entry(&self, register: Register) -> bool {
+        self.selected_logical_entry(register).is_some()
+    }
+
+    /// The physical entry that the register of a CSR number selects, if it selects one.
+    pub(crate) fn selected_entry(&self, csr: u64) -> Option<u64> {
+        listed(csr)
+            .and_then(|register| self.selected_logical_entry(register))
+            .map(|logical| self.physical_entry(logical))
     }
 
     /// What is read; `entry` is the one that the register selects, if it selects one.

@@ -72,7 +72,12 @@ fn empty_folder() -> PathBuf {
 fn files_are_written_into_folders_that_are_there() {
     let root = empty_folder();
     let refusal = write_files(&root);
-    for program in ["classify", "classifier_sweep", "access_sweep"] {
+    for program in [
+        "classify",
+        "classifier_sweep",
+        "access_sweep",
+        "transfer_sweep",
+    ] {
         fs::create_dir_all(root.join("crates").join(program)).expect("a new folder");
     }
     let result = write_files(&root);

@@ -17,6 +17,7 @@ isVirtual M = false
 isVirtual VU = true
 isVirtual VS = true
 
+-- a mode told from the others
 abbrev pub isU : Mode → Bool
 isU U = true
 isU S = false

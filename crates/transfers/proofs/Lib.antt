@@ -1,0 +1,2 @@
+-- What holds of transfers.
+pub mod Laws

@@ -1,0 +1,5 @@
+pub mod Changes
+pub mod Records
+pub mod Outcomes
+pub mod Transfers
+pub mod Laws

@@ -1,0 +1,204 @@
+// When a transfer qualifies.
+ghost use mathlib.Core.Path.{_≡_};
+ghost use mathlib.Core.Bool.{not, _&&_};
+ghost use Rattle.bits.specs.Choice.{if_then_else_};
+ghost use Rattle.classifier.specs.Transfers.{typeOf};
+ghost use Rattle.machine.specs.Filters.{inhibitedOf};
+ghost use Rattle.machine.specs.Modes.{onOf, governingOf};
+ghost use Rattle.transfers.specs.Outcomes.{stackOutcome, rasemuOf, onOutcome, retiredOutcome, trapType, trapBy, trapOutcome, returnBy, returnOutcome};
+use crate::Outcome;
+use classifier::Transfer;
+use machine::ControlBit;
+use machine::Mode;
+use machine::Registers;
+use machine::controls::is_set;
+use machine::filters::external;
+use machine::filters::freezes;
+use machine::filters::inhibited;
+use machine::modes::governing;
+use machine::modes::is_on;
+
+// What RASEMU makes of a transfer.
+fn stack_outcome(t: Transfer) -> Outcome
+    ensures { λ o. ⌜ o ≡ stackOutcome t ⌝ }
+{
+    match t {
+        Transfer::None => Outcome::Nothing,
+        Transfer::Branch => Outcome::Nothing,
+        Transfer::IndirectCall => Outcome::Record,
+        Transfer::DirectCall => Outcome::Record,
+        Transfer::IndirectJump => Outcome::Nothing,
+        Transfer::DirectJump => Outcome::Nothing,
+        Transfer::CoroutineSwap => Outcome::Swap,
+        Transfer::FunctionReturn => Outcome::Pop,
+        Transfer::OtherIndirectJump => Outcome::Nothing,
+        Transfer::OtherDirectJump => Outcome::Nothing,
+    }
+}
+
+fn rasemu(r: Registers, source: Mode, target: Mode) -> bool
+    ensures { λ b. ⌜ b ≡ rasemuOf r source target ⌝ }
+{
+    is_set(governing(r, source, target), ControlBit::RASEMU)
+}
+
+fn on_outcome(rasemu: bool, inhibited: bool, t: Transfer) -> Outcome
+    ensures { λ o. ⌜ o ≡ onOutcome rasemu inhibited t ⌝ }
+{
+    if rasemu {
+        stack_outcome(t)
+    } else if inhibited {
+        Outcome::Nothing
+    } else {
+        Outcome::Record
+    }
+}
+
+fn widened(x: u8) -> u64
+    ensures { λ y. ⌜ y ≡ x ⌝ }
+{
+    x as u64
+}
+
+// The number of a transfer's type.
+pub fn transfer_type(t: Transfer, taken: bool) -> u64
+    ensures { λ n. ⌜ n ≡ typeOf t taken ⌝ }
+{
+    widened(classifier::type_number(t, taken))
+}
+
+// What comes of a transfer retired in a mode that is on.
+fn recorded_outcome(r: Registers, t: Transfer, taken: bool) -> Outcome
+    ensures { λ o. ⌜ o ≡ onOutcome (rasemuOf r (r .mode) (r .mode)) (inhibitedOf (governingOf r (r .mode) (r .mode)) (typeOf t taken)) t ⌝ }
+{
+    let m = r.mode;
+    on_outcome(
+        rasemu(r, m, m),
+        inhibited(governing(r, m, m), transfer_type(t, taken)),
+        t,
+    )
+}
+
+// Whether the current mode is on and nothing is frozen.
+fn is_live(r: Registers) -> bool
+    ensures { λ b. ⌜ b ≡ (onOf r (r .mode) && not (r .frozen)) ⌝ }
+{
+    let m = r.mode;
+    if is_on(r, m) { !r.frozen } else { false }
+}
+
+// What comes of a retired word that is the transfer t.
+pub fn retired_outcome(r: Registers, t: Transfer, taken: bool) -> Outcome
+    ensures { λ o. ⌜ o ≡ retiredOutcome r t taken ⌝ }
+{
+    if is_live(r) {
+        recorded_outcome(r, t, taken)
+    } else {
+        Outcome::Nothing
+    }
+}
+
+pub fn trap_type(interrupt: bool) -> u64
+    ensures { λ n. ⌜ n ≡ trapType interrupt ⌝ }
+{
+    if interrupt { 2 } else { 1 }
+}
+
+fn trap_by(
+    freezes: bool,
+    frozen: bool,
+    rasemu: bool,
+    source: bool,
+    target: bool,
+    inhibited: bool,
+    external: bool,
+) -> Outcome
+    ensures { λ o. ⌜ o ≡ trapBy freezes frozen rasemu source target inhibited external ⌝ }
+{
+    if freezes {
+        Outcome::Freeze
+    } else if frozen {
+        Outcome::Nothing
+    } else if rasemu {
+        Outcome::Nothing
+    } else if target {
+        unless_inhibited(inhibited)
+    } else {
+        if_external(source, external)
+    }
+}
+
+fn unless_inhibited(inhibited: bool) -> Outcome
+    ensures { λ o. ⌜ o ≡ (if inhibited then Outcome.Nothing else Outcome.Record) ⌝ }
+{
+    if inhibited {
+        Outcome::Nothing
+    } else {
+        Outcome::Record
+    }
+}
+
+fn if_external(source: bool, external: bool) -> Outcome
+    ensures { λ o. ⌜ o ≡ (if source && external then Outcome.Record else Outcome.Nothing) ⌝ }
+{
+    if source {
+        if external {
+            Outcome::Record
+        } else {
+            Outcome::Nothing
+        }
+    } else {
+        Outcome::Nothing
+    }
+}
+
+// Whether a trap's type is inhibited.
+fn trap_inhibited(r: Registers, target: Mode, interrupt: bool) -> bool
+    ensures { λ b. ⌜ b ≡ inhibitedOf (governingOf r (r .mode) target) (trapType interrupt) ⌝ }
+{
+    let m = r.mode;
+    inhibited(governing(r, m, target), trap_type(interrupt))
+}
+
+// What comes of a possible trap.
+pub fn trap_outcome(r: Registers, target: Mode, interrupt: bool, cause: u64) -> Outcome
+    ensures { λ o. ⌜ o ≡ trapOutcome r target interrupt cause ⌝ }
+{
+    let m = r.mode;
+    trap_by(
+        freezes(r, target, interrupt, cause),
+        r.frozen,
+        rasemu(r, m, target),
+        is_on(r, m),
+        is_on(r, target),
+        trap_inhibited(r, target, interrupt),
+        external(r, m, target),
+    )
+}
+
+fn return_by(frozen: bool, rasemu: bool, source: bool, inhibited: bool) -> Outcome
+    ensures { λ o. ⌜ o ≡ returnBy frozen rasemu source inhibited ⌝ }
+{
+    if frozen {
+        Outcome::Nothing
+    } else if rasemu {
+        Outcome::Nothing
+    } else if source {
+        unless_inhibited(inhibited)
+    } else {
+        Outcome::Nothing
+    }
+}
+
+// What comes of a possible trap return.
+pub fn return_outcome(r: Registers, target: Mode) -> Outcome
+    ensures { λ o. ⌜ o ≡ returnOutcome r target ⌝ }
+{
+    let m = r.mode;
+    return_by(
+        r.frozen,
+        rasemu(r, m, target),
+        is_on(r, m),
+        inhibited(governing(r, m, target), 3),
+    )
+}

@@ -1,0 +1,247 @@
+//! The recorder as a whole: its registers, its entries, and what each event makes of them
+//! (docs/RULES.md).
+
+mod qualifying;
+
+use self::qualifying::{
+    is_inhibited, is_possible_return, is_possible_trap, EXCEPTION, INTERRUPT, TRAP_RETURN,
+};
+use crate::access::{granted, refused, Access, Answer, BAD_STATE, GRANTED};
+use crate::classifier::{transfer_type, DIRECT_CALL, INDIRECT_CALL, NONE, RETURN, SWAP};
+use crate::registers::{Entry, Mode, Registers};
+
+/// The number of physical entries, in use or not.
+pub const ENTRIES: usize = 128;
+
+/// The number answered if the mode change is not possible.
+const NOT_POSSIBLE: u8 = 4;
+
+// The values of retired words, traps and trap returns.
+const NOTHING: u64 = 0;
+const RECORDED: u64 = 1;
+const POPPED: u64 = 2;
+const SWAPPED: u64 = 3;
+const FROZEN_BY_TRAP: u64 = 4;
+
+/// Bit 0 of ctrsource is V; bit 0 of a pc is ignored.
+const V: u64 = 1;
+
+/// The PC that is shown in place of one of a mode that is off.
+const NO_PC: u64 = 0;
+
+/// All of the recorder's state.
+#[derive(Clone, Debug, PartialEq, Eq)]
+pub struct Machine {
+    pub registers: Registers,
+    pub entries: [Entry; ENTRIES],
+}
+
+/// A retired word; `taken` matters to branches only.
+#[derive(Clone, Copy, Debug, PartialEq, Eq)]
+pub struct Retired {
+    pub word: u32,
+    pub pc: u64,
+    pub target: u64,
+    pub taken: bool,
+}
+
+/// An interrupt or an exception, taken in the current mode.
+#[derive(Clone, Copy, Debug, PartialEq, Eq)]
+pub struct Trap {
+    pub target_mode: Mode,
+    pub is_interrupt: bool,
+    pub cause: u64,
+    pub epc: u64,
+    pub handler: u64,
+}
+
+/// A return from a trap handler that runs in the current mode.
+#[derive(Clone, Copy, Debug, PartialEq, Eq)]
+pub struct TrapReturn {
+    pub target_mode: Mode,
+    pub pc: u64,
+    pub target: u64,
+}
+
+#[derive(Clone, Copy, Debug, PartialEq, Eq)]
+pub enum Event {
+    Retired(Retired),
+    Trap(Trap),
+    TrapReturn(TrapReturn),
+    Access(Access),
+    Sctrclr,
+    /// The host sets the CTR bits of mstateen0 and hstateen0.
+    Host {
+        mstateen0_ctr: bool,
+        hstateen0_ctr: bool,
+    },
+}
+
+impl Machine {
+    /// The registers' reset, and all entries 0.
+    pub fn reset() -> Machine {
+        Machine {
+            registers: Registers::RESET,
+            entries: [Entry::default(); ENTRIES],
+        }
+    }
+
+    /// What is answered to the event; the machine is then in the state after it.
+    pub fn step(&mut self, event: Event) -> Answer {
+        if self.registers.is_bad() {
+            return refused(BAD_STATE);
+        }
+        match event {
+            Event::Retired(retired) => granted(self.retire(&retired)),
+            Event::Trap(trap) => self.trap(&trap),
+            Event::TrapReturn(trap_return) => self.trap_return(&trap_return),
+            Event::Access(access) => self.access(access),
+            Event::Sctrclr => self.sctrclr(),
+            Event::Host {
+                mstateen0_ctr,
+                hstateen0_ctr,
+            } => self
+                .registers
+                .set_state_enables(mstateen0_ctr, hstateen0_ctr),
+        }
+    }
+
+    fn retire(&mut self, retired: &Retired) -> u64 {
+        let number = transfer_type(retired.word, retired.taken);
+        let mode = self.registers.mode;
+        if number == NONE || self.registers.frozen || !self.registers.is_on(mode) {
+            return NOTHING;
+        }
+        let record = record(retired.pc, retired.target, number);
+        if self.registers.is_emulating(mode) {
+            self.emulate(record, number)
+        } else if is_inhibited(self.registers.control(mode), number) {
+            NOTHING
+        } else {
+            self.enter(record)
+        }
+    }
+
+    fn trap(&mut self, trap: &Trap) -> Answer {
+        if !is_possible_trap(self.registers.mode, trap.target_mode) {
+            return refused(NOT_POSSIBLE);
+        }
+        let value = if self.registers.is_freezing(trap) {
+            self.registers.frozen = true;
+            FROZEN_BY_TRAP
+        } else {
+            self.enter_if_any(self.trap_record(trap))
+        };
+        self.registers.mode = trap.target_mode;
+        granted(value)
+    }
+
+    /// What is recorded of a possible trap that doesn't freeze. A trap from a mode that is on to
+    /// one that is off is external: it has bits of its own, and no inhibit is asked.
+    fn trap_record(&self, trap: &Trap) -> Option<Entry> {
+        let registers = &self.registers;
+        let (source, target) = (registers.mode, trap.target_mode);
+        if registers.frozen || registers.is_emulating(source) {
+            return None;
+        }
+        let number = if trap.is_interrupt {
+            INTERRUPT
+        } else {
+            EXCEPTION
+        };
+        let is_inhibited = is_inhibited(registers.control(source), number);
+        match (registers.is_on(source), registers.is_on(target)) {
+            (true, true) if !is_inhibited => Some(record(trap.epc, trap.handler, number)),
+            (false, true) if !is_inhibited => Some(record(NO_PC, trap.handler, number)),
+            (true, false) if registers.shows_external_trap(source, target) => {
+                Some(record(trap.epc, NO_PC, number))
+            }
+            _ => None,
+        }
+    }
+
+    fn trap_return(&mut self, trap_return: &TrapReturn) -> Answer {
+        if !is_possible_return(self.registers.mode, trap_return.target_mode) {
+            return refused(NOT_POSSIBLE);
+        }
+        let value = self.enter_if_any(self.return_record(trap_return));
+        self.registers.mode = trap_return.target_mode;
+        granted(value)
+    }
+
+    /// What is recorded of a possible trap return.
+    fn return_record(&self, trap_return: &TrapReturn) -> Option<Entry> {
+        let registers = &self.registers;
+        let source = registers.mode;
+        if registers.frozen
+            || registers.is_emulating(source)
+            || !registers.is_on(source)
+            || is_inhibited(registers.control(source), TRAP_RETURN)
+        {
+            return None;
+        }
+        let target = if registers.is_on(trap_return.target_mode) {
+            trap_return.target
+        } else {
+            NO_PC
+        };
+        Some(record(trap_return.pc, target, TRAP_RETURN))
+    }
+
+    fn access(&mut self, access: Access) -> Answer {
+        match self.registers.selected_entry(access.csr) {
+            Some(place) => {
+                let entry = &mut self.entries[place as usize];
+                self.registers.access(entry, access)
+            }
+            None => self.registers.access(&mut Entry::default(), access),
+        }
+    }
+
+    /// All entries are cleared, also those beyond the depth.
+    fn sctrclr(&mut self) -> Answer {
+        let answer = self.registers.sctrclr(&mut self.entries[0]);
+        if answer.number == GRANTED {
+            self.entries = [Entry::default(); ENTRIES];
+        }
+        answer
+    }
+
+    fn enter_if_any(&mut self, record: Option<Entry>) -> u64 {
+        record.map_or(NOTHING, |record| self.enter(record))
+    }
+
+    fn enter(&mut self, record: Entry) -> u64 {
+        let wrptr = self.registers.wrptr;
+        self.entries[wrptr as usize] = record;
+        self.registers.wrptr = (wrptr + 1) % self.registers.depth();
+        RECORDED
+    }
+
+    /// A transfer of type `number` under RASEMU. The place of logical entry 0 is one below WRPTR.
+    fn emulate(&mut self, record: Entry, number: u8) -> u64 {
+        let newest = self.registers.physical_entry(0);
+        match number {
+            INDIRECT_CALL | DIRECT_CALL => self.enter(record),
+            RETURN => {
+                self.entries[newest as usize].ctrsource &= !V;
+                self.registers.wrptr = newest;
+                POPPED
+            }
+            SWAP => {
+                self.entries[newest as usize] = record;
+                SWAPPED
+            }
+            _ => NOTHING,
+        }
+    }
+}
+
+/// A valid entry. ctrdata is the type alone.
+fn record(pc: u64, target: u64, number: u8) -> Entry {
+    Entry {
+        ctrsource: pc | V,
+        ctrtarget: target & !1,
+        ctrdata: number.into(),
+    }
+}

@@ -1,0 +1,304 @@
+//! Random events in random states: what holds of every event (docs/RULES.md).
+
+use model::access::{Access, Operation};
+use model::digest::{xorshift64, SEED};
+use model::recorder::{Event, Machine, Retired, Trap, TrapReturn};
+use model::registers::{Entry, Mode, Registers, MCTRCTL_MASK, SCTRCTL_MASK};
+
+use Mode::*;
+
+/// EXCINH to TRETINH, TKBRINH, INDCALLINH to DIRLJMPINH.
+const ALL_INHIBITS: u64 = 0xFF2E << 32;
+
+/// A branch, jumps of types 10, 11, 14 and 15, and calls, returns and swaps.
+const TRANSFERS: [u32; 9] = [
+    0x0000_0063,
+    0x0003_0067,
+    0x0000_006F,
+    0x0003_8367,
+    0x0000_036F,
+    0x0000_00EF,
+    0x0000_80E7,
+    0x0000_8067,
+    0x0002_80E7,
+];
+
+/// The last pseudo-random number that was drawn.
+struct Random(u64);
+
+impl Random {
+    fn word(&mut self) -> u64 {
+        self.0 = xorshift64(self.0);
+        self.0
+    }
+
+    fn below(&mut self, bound: u64) -> u64 {
+        self.word() % bound
+    }
+
+    fn bit(&mut self) -> bool {
+        self.below(2) == 1
+    }
+
+    fn one_of<T: Copy>(&mut self, list: &[T]) -> T {
+        list[self.below(list.len() as u64) as usize]
+    }
+
+    /// Bad in about one of four cases.
+    fn registers(&mut self) -> Registers {
+        let stray = self.word() & self.one_of(&[0, 0, 0, 0, 0, 0, 0, u64::MAX]);
+        let inhibits = self.one_of(&[0, ALL_INHIBITS]);
+        let depth_code = self.one_of(&[0, 1, 2, 3, 0, 1, 2, 3, 0, 1, 2, 3, 4]);
+        let bound = (16 << depth_code) + self.one_of(&[0, 0, 8]);
+        Registers {
+            mode: self.one_of(&Mode::ALL),
+            mctrctl: self.word() & MCTRCTL_MASK & !inhibits | stray,
+            vsctrctl: self.word() & SCTRCTL_MASK & !inhibits | stray & 1 << 2,
+            depth_code,
+            wrptr: self.below(bound),
+            frozen: self.below(4) == 0,
+            siselect: 0x1F0 + self.below(0x120),
+            vsiselect: 0x1F0 + self.below(0x120),
+            mstateen0_ctr: self.bit(),
+            hstateen0_ctr: self.bit(),
+        }
+    }
+
+    fn machine(&mut self) -> Machine {
+        let mut machine = Machine::reset();
+        machine.registers = self.registers();
+        for place in &mut machine.entries {
+            *place = Entry {
+                ctrsource: self.word(),
+                ctrtarget: self.word(),
+                ctrdata: self.word(),
+            };
+        }
+        machine
+    }
+
+    fn retired_word(&mut self) -> Event {
+        let word = match self.below(8) {
+            0 => self.word() as u32,
+            _ => self.one_of(&TRANSFERS),
+        };
+        Event::Retired(Retired {
+            word,
+            pc: self.word(),
+            target: self.word(),
+            taken: self.bit(),
+        })
+    }
+
+    fn access(&mut self) -> Event {
+        let csr = match self.below(4) {
+            0 => self.below(0x400),
+            1 => self.one_of(&[0x14E, 0x14F, 0x15F, 0x24E, 0x34E]),
+            _ => self.one_of(&[0x150, 0x250]) + self.below(8),
+        };
+        Event::Access(Access {
+            operation: self.one_of(&Operation::ALL),
+            csr,
+            operand: self.word(),
+        })
+    }
+
+    fn event(&mut self) -> Event {
+        match self.below(10) {
+            0..=2 => self.retired_word(),
+            3..=5 => Event::Trap(Trap {
+                target_mode: self.one_of(&Mode::ALL),
+                is_interrupt: self.bit(),
+                cause: self.one_of(&[3, 13, 5, 8]),
+                epc: self.word(),
+                handler: self.word(),
+            }),
+            6 | 7 => Event::TrapReturn(TrapReturn {
+                target_mode: self.one_of(&Mode::ALL),
+                pc: self.word(),
+                target: self.word(),
+            }),
+            8 => self.access(),
+            _ if self.bit() => Event::Sctrclr,
+            _ => Event::Host {
+                mstateen0_ctr: self.bit(),
+                hstateen0_ctr: self.bit(),
+            },
+        }
+    }
+}
+
+fn is_on(registers: &Registers, mode: Mode) -> bool {
+    let switches = match mode {
+        U => registers.mctrctl,
+        S => registers.mctrctl >> 1,
+        M => registers.mctrctl >> 2,
+        VU => registers.vsctrctl,
+        VS => registers.vsctrctl >> 1,
+    };
+    switches & 1 == 1
+}
+
+#[derive(Clone, Copy, PartialEq)]
+enum Side {
+    Source,
+    Target,
+}
+
+/// The event with another address on one side, if it has addresses.
+fn with_address(mut event: Event, side: Side, change: impl Fn(u64) -> u64) -> Event {
+    let (source, target) = match &mut event {
+        Event::Retired(retired) => (&mut retired.pc, &mut retired.target),
+        Event::Trap(trap) => (&mut trap.epc, &mut trap.handler),
+        Event::TrapReturn(trap_return) => (&mut trap_return.pc, &mut trap_return.target),
+        _ => return event,
+    };
+    let address = if side == Side::Source { source } else { target };
+    *address = change(*address);
+    event
+}
+
+const ROUNDS: u32 = 200_000;
+
+#[test]
+fn refusals_change_nothing_and_good_states_stay_good() {
+    let mut random = Random(SEED);
+    let mut counts = [0; 6];
+    for _ in 0..ROUNDS {
+        let (before, event) = (random.machine(), random.event());
+        let mut after = before.clone();
+        let answer = after.step(event);
+        if answer.number != 0 {
+            assert_eq!((answer.value, &after), (0, &before));
+        }
+        assert_eq!(answer.number == 5, before.registers.is_bad());
+        assert_eq!(after.registers.is_bad(), before.registers.is_bad());
+        counts[usize::from(answer.number)] += 1;
+    }
+    assert!(counts.iter().all(|count| *count > 1_000), "{counts:?}");
+}
+
+fn is_transfer(event: Event) -> bool {
+    matches!(
+        event,
+        Event::Retired(_) | Event::Trap(_) | Event::TrapReturn(_)
+    )
+}
+
+/// The mode that a possible event leads to.
+fn mode_after(before: Mode, event: Event) -> Mode {
+    match event {
+        Event::Trap(trap) => trap.target_mode,
+        Event::TrapReturn(trap_return) => trap_return.target_mode,
+        _ => before,
+    }
+}
+
+/// A record sets V, clears bit 0 of ctrtarget and holds a type; a pop clears V; a swap leaves
+/// WRPTR. All other entries and registers stay, but for the mode.
+#[test]
+fn values_tell_what_has_changed() {
+    let mut random = Random(SEED);
+    let mut counts = [0; 5];
+    for _ in 0..ROUNDS {
+        let (before, event) = (random.machine(), random.event());
+        let mut after = before.clone();
+        let answer = after.step(event);
+        if answer.number != 0 || !is_transfer(event) {
+            continue;
+        }
+        let depth = before.registers.depth();
+        let wrptr = before.registers.wrptr;
+        let below = (wrptr + depth - 1) % depth;
+        let mut expected = before.clone();
+        expected.registers.mode = mode_after(before.registers.mode, event);
+        match answer.value {
+            1 => {
+                expected.registers.wrptr = (wrptr + 1) % depth;
+                expected.entries[wrptr as usize] = after.entries[wrptr as usize];
+                assert!(is_record(&after.entries[wrptr as usize]));
+            }
+            2 => {
+                expected.registers.wrptr = below;
+                expected.entries[below as usize].ctrsource &= !1;
+            }
+            3 => {
+                expected.entries[below as usize] = after.entries[below as usize];
+                assert!(is_record(&after.entries[below as usize]));
+            }
+            4 => expected.registers.frozen = true,
+            _ => {}
+        }
+        assert_eq!(after, expected);
+        counts[answer.value as usize] += 1;
+    }
+    assert!(counts.iter().all(|count| *count > 500), "{counts:?}");
+}
+
+fn is_record(entry: &Entry) -> bool {
+    entry.ctrsource & 1 == 1 && entry.ctrtarget & 1 == 0 && matches!(entry.ctrdata, 1..=5 | 8..=15)
+}
+
+/// Also in bad states, which answer 5.
+#[test]
+fn words_retired_in_a_mode_that_is_off_change_nothing() {
+    let mut random = Random(SEED);
+    let mut count = 0;
+    for _ in 0..ROUNDS {
+        let (before, event) = (random.machine(), random.retired_word());
+        if is_on(&before.registers, before.registers.mode) {
+            continue;
+        }
+        let mut after = before.clone();
+        let answer = after.step(event);
+        assert_eq!((answer.value, &after), (0, &before));
+        count += 1;
+    }
+    assert!(count > ROUNDS / 4);
+}
+
+/// Traps and returns, possible or not, in good states and bad ones: another address on the side of
+/// a mode that is off gives the same answer and the same state.
+#[test]
+fn addresses_on_the_side_of_an_off_mode_never_show() {
+    let mut random = Random(SEED);
+    let mut count = 0;
+    for _ in 0..ROUNDS {
+        let (before, event) = (random.machine(), random.event());
+        if !matches!(event, Event::Trap(_) | Event::TrapReturn(_)) {
+            continue;
+        }
+        let mut other = event;
+        let source = before.registers.mode;
+        let sides = [
+            (Side::Source, source),
+            (Side::Target, mode_after(source, event)),
+        ];
+        for (side, _) in sides
+            .iter()
+            .filter(|(_, mode)| !is_on(&before.registers, *mode))
+        {
+            let address = random.word();
+            other = with_address(other, *side, |_| address);
+        }
+        let (mut one, mut two) = (before.clone(), before);
+        assert_eq!(one.step(event), two.step(other));
+        assert_eq!(one, two);
+        count += u32::from(other != event);
+    }
+    assert!(count > ROUNDS / 4);
+}
+
+#[test]
+fn bit_0_of_addresses_is_ignored() {
+    let mut random = Random(SEED);
+    for _ in 0..ROUNDS {
+        let (before, event) = (random.machine(), random.event());
+        for side in [Side::Source, Side::Target] {
+            let other = with_address(event, side, |address| address ^ 1);
+            let (mut one, mut two) = (before.clone(), before.clone());
+            assert_eq!(one.step(event), two.step(other));
+            assert_eq!(one, two);
+        }
+    }
+}
