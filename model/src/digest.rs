@@ -16,6 +16,11 @@ pub fn digest(h: u64, w: u64) -> u64 {
     (h.rotate_left(5) ^ w).wrapping_add(0x9E37_79B9_7F4A_7C15)
 }
 
+/// The digest of a list that goes on with `words` after those of the digest `h`.
+pub fn extended(h: u64, words: impl IntoIterator<Item = u64>) -> u64 {
+    words.into_iter().fold(h, digest)
+}
+
 #[cfg(test)]
 mod tests {
     use super::*;

@@ -1,14 +1,15 @@
 //! The expected output of the programs below crates/, and the input they are fed with.
 
 mod access_sweep;
-mod transfer_sweep;
+mod random;
+mod recorder_sweep;
 
 use std::fs;
 use std::iter::successors;
 use std::path::{Path, PathBuf};
 
 pub use self::access_sweep::access_sweep;
-pub use self::transfer_sweep::transfer_sweep;
+pub use self::recorder_sweep::recorder_sweep;
 use crate::classifier::{name, transfer_type};
 use crate::digest::{digest, xorshift64, SEED};
 use crate::encode::{branch, c_jalr, c_jr, jal, jalr};
@@ -26,8 +27,8 @@ pub fn files() -> Vec<(&'static str, Vec<u8>)> {
         ),
         ("crates/access_sweep/stdout", access_sweep().into_bytes()),
         (
-            "crates/transfer_sweep/stdout",
-            transfer_sweep().into_bytes(),
+            "crates/recorder_sweep/stdout",
+            recorder_sweep().into_bytes(),
         ),
     ]
 }

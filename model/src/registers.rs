@@ -130,6 +130,22 @@ impl Registers {
         hstateen0_ctr: false,
     };
 
+    /// All fields as numbers: the mode by its code, bits as 0 and 1.
+    pub(crate) fn fields(&self) -> [u64; 10] {
+        [
+            self.mode as u64,
+            self.mctrctl,
+            self.vsctrctl,
+            self.depth_code,
+            self.wrptr,
+            self.frozen.into(),
+            self.siselect,
+            self.vsiselect,
+            self.mstateen0_ctr.into(),
+            self.hstateen0_ctr.into(),
+        ]
+    }
+
     /// Whether every event answers 5 here.
     pub fn is_bad(&self) -> bool {
         self.depth_code > 3
@@ -240,6 +256,10 @@ impl Registers {
 }
 
 impl Entry {
+    pub(crate) fn words(&self) -> [u64; 3] {
+        [self.ctrsource, self.ctrtarget, self.ctrdata]
+    }
+
     /// What sireg `k` reads of the entry.
     fn reading(&self, k: u8) -> u64 {
         match k {

@@ -76,7 +76,7 @@ fn files_are_written_into_folders_that_are_there() {
         "classify",
         "classifier_sweep",
         "access_sweep",
-        "transfer_sweep",
+        "recorder_sweep",
     ] {
         fs::create_dir_all(root.join("crates").join(program)).expect("a new folder");
     }

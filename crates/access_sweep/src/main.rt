@@ -1,7 +1,6 @@
 // Accesses every listed CSR number and its neighbours, with every operation, in every mode and in
 // many states, bad ones among them, and prints how often each number was answered and digests of
 // answers, registers and entries. The gate compares it with what the model prints.
-use access::Operation;
 use libc::STDOUT_FILENO;
 use machine::Decision;
 use machine::Effect;
@@ -10,6 +9,12 @@ use machine::Mode;
 use machine::Registers;
 use machine::controls::MCTRCTL_MASK;
 use machine::controls::SCTRCTL_MASK;
+use sweep_support::codes::operation_of;
+use sweep_support::digests::digest_answer;
+use sweep_support::digests::digest_entry;
+use sweep_support::digests::digest_registers;
+use sweep_support::lines::put_counts;
+use sweep_support::lines::put_word;
 use test_support::SEED;
 use test_support::digest;
 use test_support::xorshift64;
@@ -74,57 +79,6 @@ const SELECTIONS: [u64; 13] = [
     0x8000_0000_0000_0200,
 ];
 
-fn flag(b: bool) -> u64 {
-    if b { 1 } else { 0 }
-}
-
-fn mode_of(code: u64) -> Mode {
-    match code {
-        0 => Mode::U,
-        1 => Mode::S,
-        2 => Mode::M,
-        3 => Mode::VU,
-        _ => Mode::VS,
-    }
-}
-
-fn mode_code(m: Mode) -> u64 {
-    match m {
-        Mode::U => 0,
-        Mode::S => 1,
-        Mode::M => 2,
-        Mode::VU => 3,
-        Mode::VS => 4,
-    }
-}
-
-fn operation_of(code: u64) -> Operation {
-    match code {
-        0 => Operation::Read,
-        1 => Operation::Write,
-        2 => Operation::Set,
-        _ => Operation::Clear,
-    }
-}
-
-fn digest_registers(h: u64, r: Registers) -> u64 {
-    let m = r.mode;
-    let mut d = digest(h, mode_code(m));
-    d = digest(d, r.mctrctl);
-    d = digest(d, r.vsctrctl);
-    d = digest(d, r.sctrdepth);
-    d = digest(d, r.wrptr);
-    d = digest(d, flag(r.frozen));
-    d = digest(d, r.siselect);
-    d = digest(d, r.vsiselect);
-    d = digest(d, flag(r.mstateen0));
-    digest(d, flag(r.hstateen0))
-}
-
-fn digest_entry(h: u64, e: Entry) -> u64 {
-    digest(digest(digest(h, e.ctrsource), e.ctrtarget), e.ctrdata)
-}
-
 // The entry in focus after an effect.
 fn after(old: Entry, effect: Effect) -> Entry {
     match effect {
@@ -142,7 +96,7 @@ fn tallied(run: Run, d: Decision) -> Run {
     let mut next = run;
     let k = (d.number % 6) as usize;
     next.counts[k] = std::num::wrapping_add_u64(next.counts[k], 1);
-    next.answers = digest(digest(next.answers, d.number), d.value);
+    next.answers = digest_answer(next.answers, d.number, d.value);
     let r = d.registers;
     next.registers = digest_registers(next.registers, r);
     let old = run.last;
@@ -310,37 +264,15 @@ fn swept(mode: Mode) -> Run {
     run
 }
 
-fn put_digest(out: &mut [u8], at: usize, name: &[u8], h: u64) -> usize {
-    let mut next = text::put(out, at, name);
-    next = text::put_hex(out, next, h, 16);
-    text::put_byte(out, next, b'\n')
-}
-
-fn put_count(out: &mut [u8], at: usize, k: usize, count: u64) -> usize {
-    let mut next = text::put(out, at, b"  number ");
-    next = text::put_decimal(out, next, k as u64);
-    next = text::put_byte(out, next, b' ');
-    next = text::put_decimal(out, next, count);
-    text::put_byte(out, next, b'\n')
-}
-
-fn put_counts(out: &mut [u8], at: usize, counts: [u64; 6]) -> usize {
-    let mut next = at;
-    for k in 0..6 {
-        next = put_count(out, next, k, counts[k]);
-    }
-    next
-}
-
 fn report_mode(name: &[u8], mode: Mode) {
     let run = swept(mode);
     let mut out = [0u8; 1024];
     let mut at = text::put(&mut out, 0, name);
     let counts = run.counts;
-    at = put_counts(&mut out, at, counts);
-    at = put_digest(&mut out, at, b"  answers 0x", run.answers);
-    at = put_digest(&mut out, at, b"  registers 0x", run.registers);
-    at = put_digest(&mut out, at, b"  entries 0x", run.entries);
+    at = put_counts(&mut out, at, b"  number ", &counts);
+    at = put_word(&mut out, at, b"  answers 0x", run.answers);
+    at = put_word(&mut out, at, b"  registers 0x", run.registers);
+    at = put_word(&mut out, at, b"  entries 0x", run.entries);
     io::write_all(STDOUT_FILENO, text::before(&out, at));
 }
 
@@ -372,7 +304,7 @@ fn report_depth(code: u64) {
     let mut out = [0u8; 64];
     let mut at = text::put(&mut out, 0, b"  depth ");
     at = text::put_decimal(&mut out, at, machine::regs::depth(code));
-    at = put_digest(&mut out, at, b" 0x", all_places(code));
+    at = put_word(&mut out, at, b" 0x", all_places(code));
     io::write_all(STDOUT_FILENO, text::before(&out, at));
 }
 

@@ -1,8 +1,9 @@
 //! The expected output of `access_sweep`: every operation on many CSR numbers, SCTRCLR and host
 //! events, in every mode and many states, and the places of logical entries.
 
+use super::random::Random;
 use crate::access::{Access, Answer, Operation};
-use crate::digest::{digest, xorshift64, SEED};
+use crate::digest::extended;
 use crate::registers::{Entry, Mode, Registers, DEPTHS, MCTRCTL_MASK, SCTRCTL_MASK};
 
 /// Both ends of the window, of the entries in use at each depth, and a high bit.
@@ -36,15 +37,7 @@ fn numbers() -> impl Iterator<Item = u64> {
         .chain(0x34D..=0x34F)
 }
 
-/// The last pseudo-random number that was drawn.
-struct Random(u64);
-
 impl Random {
-    fn draw(&mut self) -> u64 {
-        self.0 = xorshift64(self.0);
-        self.0
-    }
-
     /// Often no bits, all bits or few bits.
     fn operand(&mut self) -> u64 {
         let x = self.draw();
@@ -53,14 +46,6 @@ impl Random {
             1 => u64::MAX,
             2 => x % 1024,
             _ => x,
-        }
-    }
-
-    fn entry(&mut self) -> Entry {
-        Entry {
-            ctrsource: self.draw(),
-            ctrtarget: self.draw(),
-            ctrdata: self.draw(),
         }
     }
 
@@ -108,9 +93,8 @@ impl Tally {
     fn add(&mut self, answer: Answer, registers: &Registers, entry: &Entry) {
         self.counts[usize::from(answer.number)] += 1;
         self.answers = extended(self.answers, [answer.number.into(), answer.value]);
-        self.registers = extended(self.registers, fields(registers));
-        let words = [entry.ctrsource, entry.ctrtarget, entry.ctrdata];
-        self.entries = extended(self.entries, words);
+        self.registers = extended(self.registers, registers.fields());
+        self.entries = extended(self.entries, entry.words());
     }
 
     fn lines(&self) -> String {
@@ -124,28 +108,8 @@ impl Tally {
     }
 }
 
-/// The digest of a list that goes on with `words` after those of the digest `h`.
-fn extended(h: u64, words: impl IntoIterator<Item = u64>) -> u64 {
-    words.into_iter().fold(h, digest)
-}
-
-fn fields(registers: &Registers) -> [u64; 10] {
-    [
-        registers.mode as u64,
-        registers.mctrctl,
-        registers.vsctrctl,
-        registers.depth_code,
-        registers.wrptr,
-        registers.frozen.into(),
-        registers.siselect,
-        registers.vsiselect,
-        registers.mstateen0_ctr.into(),
-        registers.hstateen0_ctr.into(),
-    ]
-}
-
 fn mode_block(mode: Mode) -> String {
-    let mut random = Random(SEED);
+    let mut random = Random::from_seed();
     let mut tally = Tally::default();
     for s in 0..40 {
         let state = random.state(mode, s);

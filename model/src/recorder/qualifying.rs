@@ -67,7 +67,7 @@ impl Registers {
     }
 
     /// The switches are the lowest bits.
-    pub(super) fn is_on(&self, mode: Mode) -> bool {
+    pub(crate) fn is_on(&self, mode: Mode) -> bool {
         let place = match mode {
             U | VU => 0,
             S | VS => 1,

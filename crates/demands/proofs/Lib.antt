@@ -1,0 +1,11 @@
+pub mod Free
+pub mod Demand1
+pub mod Tests
+pub mod Outcomes
+pub mod Pointer
+pub mod Transfers
+pub mod Accounts
+pub mod Demand2
+pub mod Demand3
+pub mod CodeRuns
+pub mod BenchTable

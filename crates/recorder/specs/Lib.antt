@@ -1,0 +1,4 @@
+pub mod Events
+pub mod Decisions
+pub mod Entries
+pub mod Steps

@@ -1,0 +1,108 @@
+// One event: in place on lent entries, and by value on a whole state.
+ghost use mathlib.Core.Path.{_≡_};
+ghost use Prim.Native.Nat.{_<_};
+ghost use Rattle.recorder.specs.Entries.{entries, entriesOf, appliedOf};
+ghost use Rattle.recorder.specs.Steps.{stateOf, stepped, stepOf, resetState, Whole};
+use crate::Answered;
+use crate::ENTRIES;
+use crate::Event;
+use crate::State;
+use crate::Stepped;
+use crate::decide::decide;
+use crate::events::place;
+use crate::events::transfer;
+use machine::Effect;
+use machine::Entry;
+use machine::Registers;
+
+// The state at reset.
+pub fn reset() -> State
+    ensures { λ s. ⌜ s ≡ resetState ⌝ }
+    ensures whole { λ s. ⌜ Whole s ⌝ }
+{
+    let registers = machine::regs::reset();
+    State {
+        registers,
+        ctrsource: [0; ENTRIES],
+        ctrtarget: [0; ENTRIES],
+        ctrdata: [0; ENTRIES],
+    }
+}
+
+// An effect on the physical entry at an index.
+fn put_in_place(
+    ctrsource: &mut [u64; ENTRIES],
+    ctrtarget: &mut [u64; ENTRIES],
+    ctrdata: &mut [u64; ENTRIES],
+    effect: Effect,
+    at: usize,
+)
+    requires { ⌜ at < entries ⌝ }
+    ensures { λ _. ⌜ entriesOf (now (ctrsource .exit)) (now (ctrtarget .exit)) (now (ctrdata .exit)) ≡ appliedOf (entriesOf (now (ctrsource .entry)) (now (ctrtarget .entry)) (now (ctrdata .entry))) effect at ⌝ }
+{
+    match effect {
+        Effect::Keep => {}
+        Effect::Put(e) => {
+            ctrsource[at] = e.ctrsource;
+            ctrtarget[at] = e.ctrtarget;
+            ctrdata[at] = e.ctrdata;
+        }
+        Effect::ClearAll => {
+            *ctrsource = [0; ENTRIES];
+            *ctrtarget = [0; ENTRIES];
+            *ctrdata = [0; ENTRIES];
+        }
+    }
+}
+
+// One event in place: the entries are lent, and the registers go in and come back.
+pub fn step_in_place(
+    ctrsource: &mut [u64; ENTRIES],
+    ctrtarget: &mut [u64; ENTRIES],
+    ctrdata: &mut [u64; ENTRIES],
+    r: Registers,
+    e: Event,
+) -> Answered
+    ensures { λ a. ⌜ stepOf (stateOf r (entriesOf (now (ctrsource .entry)) (now (ctrtarget .entry)) (now (ctrdata .entry)))) e ≡ stepped a (entriesOf (now (ctrsource .exit)) (now (ctrtarget .exit)) (now (ctrdata .exit))) ⌝ }
+{
+    let t = transfer(e);
+    let at = place(r, t, e);
+    let old = Entry {
+        ctrsource: ctrsource[at],
+        ctrtarget: ctrtarget[at],
+        ctrdata: ctrdata[at],
+    };
+    let d = decide(r, old, t, e);
+    let effect = d.effect;
+    put_in_place(ctrsource, ctrtarget, ctrdata, effect, at);
+    let registers = d.registers;
+    Answered {
+        number: d.number,
+        value: d.value,
+        registers,
+    }
+}
+
+// One event by value.
+pub fn step(s: State, e: Event) -> Stepped
+    ensures { λ t. ⌜ t ≡ stepOf s e ⌝ }
+    ensures whole { λ t. ⌜ Whole (t .state) ⌝ }
+{
+    let mut ctrsource = s.ctrsource;
+    let mut ctrtarget = s.ctrtarget;
+    let mut ctrdata = s.ctrdata;
+    let r = s.registers;
+    let a = step_in_place(&mut ctrsource, &mut ctrtarget, &mut ctrdata, r, e);
+    let registers = a.registers;
+    let state = State {
+        registers,
+        ctrsource,
+        ctrtarget,
+        ctrdata,
+    };
+    Stepped {
+        number: a.number,
+        value: a.value,
+        state,
+    }
+}

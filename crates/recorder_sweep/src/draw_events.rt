@@ -1,0 +1,236 @@
+// Random events. What draws is given the last word drawn.
+use machine::Mode;
+use recorder::Event;
+use sweep_support::codes::mode_of;
+use sweep_support::codes::operation_of;
+use test_support::xorshift64;
+
+// An event, and the last word drawn for it.
+pub struct Drawn {
+    pub event: Event,
+    pub random: u64,
+}
+
+// Each type, by 32-bit and compressed words, and words that are none.
+const WORDS: [u32; 16] = [
+    0x0000_00EF,
+    0x0000_8067,
+    0x0002_80E7,
+    0x0000_80E7,
+    0x0003_0067,
+    0x0003_8367,
+    0x0000_006F,
+    0x0000_036F,
+    0x0000_0063,
+    0x0000_9082,
+    0x0000_9282,
+    0x0000_8082,
+    0x0000_A001,
+    0x0000_C001,
+    0x0000_9002,
+    0x0000_0013,
+];
+
+// Every listed CSR number, a few that are not listed, and the ones that matter most again.
+const NUMBERS: [u64; 32] = [
+    0x14E,
+    0x14F,
+    0x15F,
+    0x24E,
+    0x34E,
+    0x150,
+    0x151,
+    0x152,
+    0x153,
+    0x155,
+    0x156,
+    0x157,
+    0x250,
+    0x251,
+    0x252,
+    0x253,
+    0x255,
+    0x256,
+    0x257,
+    0x154,
+    0x254,
+    0x158,
+    0x14D,
+    0x25F,
+    0x350,
+    0x34E,
+    0x14E,
+    0x24E,
+    0x151,
+    0x150,
+    0x251,
+    0x250,
+];
+
+// Both ends of the window, and of the entries at depths 16 and 128.
+const EDGES: [u64; 8] = [0x1FF, 0x200, 0x20F, 0x210, 0x27F, 0x280, 0x2FF, 0x300];
+
+// One of eight is any word.
+fn word_of(w: u64) -> u32 {
+    let at = (w / 8 % 16) as usize;
+    if w % 8 == 0 {
+        (w / 8 % 0x1_0000_0000) as u32
+    } else {
+        WORDS[at]
+    }
+}
+
+fn retired(w: u64, pc: u64, target: u64, taken: bool) -> Event {
+    Event::Retired {
+        word: word_of(w),
+        pc,
+        target,
+        taken,
+    }
+}
+
+// A retired word by itself.
+pub fn draw_word(random: u64) -> Drawn {
+    let w = xorshift64(random);
+    let pc = xorshift64(w);
+    let target = xorshift64(pc);
+    Drawn {
+        event: retired(w, pc, target, w / 128 % 2 == 1),
+        random: target,
+    }
+}
+
+fn host_trap_target(choice: u64) -> Mode {
+    match choice % 3 {
+        1 => Mode::M,
+        _ => Mode::S,
+    }
+}
+
+fn guest_trap_target(choice: u64) -> Mode {
+    match choice % 3 {
+        0 => Mode::VS,
+        1 => Mode::S,
+        _ => Mode::M,
+    }
+}
+
+// One of four goes to any mode, the others to one that a trap can go to.
+fn trap_target(mode: Mode, c: u64) -> Mode {
+    if c % 4 == 0 {
+        return mode_of(c / 4);
+    }
+    match mode {
+        Mode::U => host_trap_target(c / 4),
+        Mode::S => host_trap_target(c / 4),
+        Mode::M => Mode::M,
+        Mode::VU => guest_trap_target(c / 4),
+        Mode::VS => guest_trap_target(c / 4),
+    }
+}
+
+fn supervisor_return_target(choice: u64) -> Mode {
+    match choice % 4 {
+        0 => Mode::U,
+        1 => Mode::S,
+        2 => Mode::VU,
+        _ => Mode::VS,
+    }
+}
+
+fn guest_return_target(choice: u64) -> Mode {
+    match choice % 2 {
+        0 => Mode::VS,
+        _ => Mode::VU,
+    }
+}
+
+// One of four goes to any mode, the others to one that a return can go to, where there is one.
+fn return_target(mode: Mode, c: u64) -> Mode {
+    if c % 4 == 0 {
+        return mode_of(c / 4);
+    }
+    match mode {
+        Mode::U => mode_of(c / 4),
+        Mode::S => supervisor_return_target(c / 4),
+        Mode::M => mode_of(c / 4),
+        Mode::VU => mode_of(c / 4),
+        Mode::VS => guest_return_target(c / 4),
+    }
+}
+
+// The causes that freeze, another exception, and any cause.
+fn cause_of(choice: u64, other: u64) -> u64 {
+    match choice % 4 {
+        0 => 3,
+        1 => 13,
+        2 => 2,
+        _ => other,
+    }
+}
+
+fn trap(mode: Mode, c: u64, w: u64, epc: u64, handler: u64) -> Event {
+    Event::Trap {
+        to: trap_target(mode, c),
+        interrupt: c / 16 % 2 == 1,
+        cause: cause_of(c / 32, w),
+        epc,
+        handler,
+    }
+}
+
+// Any word, or one that suits a control register, sctrstatus, a selection or a depth code.
+fn operand(choice: u64, z: u64) -> u64 {
+    let at = (z % 8) as usize;
+    match choice % 8 {
+        0 => z,
+        1 => (z & 0x1B07) | 7,
+        2 => z & 0xFFFF_FFFF_7FFF_FFFF,
+        3 => 0x87,
+        4 => 0x200 + z % 0x100,
+        5 => EDGES[at],
+        6 => z % 8,
+        _ => z & 0xFF_0000_001F,
+    }
+}
+
+fn access(c: u64, w: u64, z: u64) -> Event {
+    let at = (w % 32) as usize;
+    Event::Access {
+        operation: operation_of(c),
+        number: NUMBERS[at],
+        operand: operand(c / 4, z),
+    }
+}
+
+fn event_of(mode: Mode, k: u64, w: u64, x: u64, y: u64, z: u64) -> Event {
+    let c = k / 64;
+    match k % 64 {
+        0..=29 => retired(w, x, y, c % 2 == 1),
+        30..=37 => trap(mode, c, w, x, y),
+        38..=45 => Event::TrapReturn {
+            to: return_target(mode, c),
+            pc: x,
+            target: y,
+        },
+        46..=61 => access(c, w, z),
+        62 => Event::Sctrclr,
+        _ => Event::Host {
+            mstateen0: c % 4 != 0,
+            hstateen0: c / 4 % 4 != 0,
+        },
+    }
+}
+
+// An event for a machine in a mode.
+pub fn draw_event(random: u64, mode: Mode) -> Drawn {
+    let k = xorshift64(random);
+    let w = xorshift64(k);
+    let x = xorshift64(w);
+    let y = xorshift64(x);
+    let z = xorshift64(y);
+    Drawn {
+        event: event_of(mode, k, w, x, y, z),
+        random: z,
+    }
+}

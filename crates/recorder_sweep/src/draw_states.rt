@@ -1,0 +1,85 @@
+// Random start states. What draws is given the last word drawn.
+use machine::Registers;
+use machine::controls::MCTRCTL_MASK;
+use machine::controls::SCTRCTL_MASK;
+use recorder::ENTRIES;
+use sweep_support::codes::mode_of;
+use test_support::xorshift64;
+
+// Registers, and the last word drawn for them.
+pub struct Start {
+    pub registers: Registers,
+    pub random: u64,
+}
+
+// The control bits that a state may have: with inhibits or without, with RASEMU or without.
+fn allowed(choice: u64) -> u64 {
+    match choice % 4 {
+        0 => 0xFFFF_FFFF_FFFF_FF7F,
+        1 => 0x1B07,
+        2 => 0xFFFF_FFFF_FFFF_FFFF,
+        _ => 0x1B87,
+    }
+}
+
+fn good_registers(a: u64, b: u64, c: u64, d: u64, f: u64) -> Registers {
+    let code = a / 5 % 4;
+    let bits = allowed(a / 2560);
+    Registers {
+        mode: mode_of(a),
+        mctrctl: b & MCTRCTL_MASK & bits,
+        vsctrctl: c & SCTRCTL_MASK & bits,
+        sctrdepth: code,
+        wrptr: machine::regs::wrapped(d, code),
+        frozen: a / 20 % 8 == 0,
+        siselect: 0x200 + f % 0x100,
+        vsiselect: 0x200 + f / 0x100 % 0x100,
+        mstateen0: a / 160 % 4 != 0,
+        hstateen0: a / 640 % 4 != 0,
+    }
+}
+
+// One of four is spoiled, in one of the four ways that number 5 is about.
+fn spoiled(r: Registers, choice: u64, d: u64) -> Registers {
+    let mut q = r;
+    match choice % 16 {
+        0 => q.sctrdepth = 4 + d % 1000,
+        1 => q.wrptr = std::num::wrapping_add_u64(machine::regs::depth(r.sctrdepth), d % 1000),
+        2 => q.mctrctl = r.mctrctl | 0x8,
+        3 => q.vsctrctl = r.vsctrctl | 0x4,
+        _ => {}
+    }
+    q
+}
+
+pub fn draw_registers(random: u64) -> Start {
+    let a = xorshift64(random);
+    let b = xorshift64(a);
+    let c = xorshift64(b);
+    let d = xorshift64(c);
+    let f = xorshift64(d);
+    let good = good_registers(a, b, c, d, f);
+    Start {
+        registers: spoiled(good, a / 10240, d),
+        random: f,
+    }
+}
+
+// Fills the entries, undefined bits too, and answers the last word drawn.
+pub fn draw_entries(
+    ctrsource: &mut [u64; ENTRIES],
+    ctrtarget: &mut [u64; ENTRIES],
+    ctrdata: &mut [u64; ENTRIES],
+    random: u64,
+) -> u64 {
+    let mut x = random;
+    for i in 0..ENTRIES {
+        x = xorshift64(x);
+        ctrsource[i] = x;
+        x = xorshift64(x);
+        ctrtarget[i] = x;
+        x = xorshift64(x);
+        ctrdata[i] = x;
+    }
+    x
+}

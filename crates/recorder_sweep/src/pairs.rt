@@ -1,0 +1,288 @@
+// Pairs of lists that differ only where modes are off: in words retired there, which are struck, and
+// in addresses on their side. The answers left and the end states have to be equal. Run A is in
+// place, run B by value.
+use crate::draw_events::draw_event;
+use crate::draw_events::draw_word;
+use crate::draw_states::draw_entries;
+use crate::draw_states::draw_registers;
+use crate::events::differing_addresses;
+use crate::events::is_off;
+use crate::events::is_retired;
+use crate::events::with_addresses;
+use crate::states::digest_state;
+use crate::states::is_same;
+use libc::STDOUT_FILENO;
+use machine::Registers;
+use machine::regs::is_good;
+use recorder::ENTRIES;
+use recorder::Event;
+use recorder::State;
+use recorder::steps::step;
+use recorder::steps::step_in_place;
+use std::num::wrapping_add_u64;
+use sweep_support::codes::flag;
+use sweep_support::digests::digest_answer;
+use sweep_support::lines::put_count;
+use sweep_support::lines::put_word;
+use test_support::SEED;
+use test_support::xorshift64;
+
+// What was seen, and the last word drawn.
+struct Tally {
+    random: u64,
+    bad_starts: u64,
+    unequal_lengths: u64,
+    words_struck: u64,
+    addresses_differed: u64,
+    events_left: u64,
+    answers_unequal: u64,
+    end_states_unequal: u64,
+    answers: u64,
+    end_states: u64,
+}
+
+// A pair under way: A but for its entries, B, and how many words each retired alone.
+struct Pair {
+    a: Registers,
+    b: State,
+    alone_in_a: u64,
+    alone_in_b: u64,
+    tally: Tally,
+}
+
+// A after words of its own, and the last word drawn for them.
+struct InPlace {
+    registers: Registers,
+    random: u64,
+}
+
+// The same of B.
+struct ByValue {
+    state: State,
+    random: u64,
+}
+
+const PAIRS: u64 = 4000;
+
+const TURNS: u64 = 16;
+
+// How many words a run retires alone: only words in a mode that is off are struck.
+fn words_alone(r: Registers, n: u64) -> u64 {
+    if is_off(r) { n % 4 } else { 0 }
+}
+
+// Words that A retires alone.
+fn retire_in_place(
+    ctrsource: &mut [u64; ENTRIES],
+    ctrtarget: &mut [u64; ENTRIES],
+    ctrdata: &mut [u64; ENTRIES],
+    r: Registers,
+    random: u64,
+    words: u64,
+) -> InPlace {
+    let mut registers = r;
+    let mut last = random;
+    for _ in 0..words {
+        let drawn = draw_word(last);
+        last = drawn.random;
+        let e = drawn.event;
+        let a = step_in_place(ctrsource, ctrtarget, ctrdata, registers, e);
+        registers = a.registers;
+    }
+    InPlace {
+        registers,
+        random: last,
+    }
+}
+
+// Words that B retires alone.
+fn retire_by_value(s: State, random: u64, words: u64) -> ByValue {
+    let mut state = s;
+    let mut last = random;
+    for _ in 0..words {
+        let drawn = draw_word(last);
+        last = drawn.random;
+        let e = drawn.event;
+        let b = step(state, e);
+        state = b.state;
+    }
+    ByValue {
+        state,
+        random: last,
+    }
+}
+
+// What each run retires alone, A first.
+fn run_alone(
+    ctrsource: &mut [u64; ENTRIES],
+    ctrtarget: &mut [u64; ENTRIES],
+    ctrdata: &mut [u64; ENTRIES],
+    p: Pair,
+) -> Pair {
+    let n = xorshift64(p.tally.random);
+    let r = p.a;
+    let s = p.b;
+    let q = s.registers;
+    let in_a = words_alone(r, n);
+    let in_b = words_alone(q, n / 4);
+    let a = retire_in_place(ctrsource, ctrtarget, ctrdata, r, n, in_a);
+    let b = retire_by_value(s, a.random, in_b);
+    let mut tally = p.tally;
+    tally.random = b.random;
+    let registers = a.registers;
+    let state = b.state;
+    Pair {
+        a: registers,
+        b: state,
+        alone_in_a: wrapping_add_u64(p.alone_in_a, in_a),
+        alone_in_b: wrapping_add_u64(p.alone_in_b, in_b),
+        tally,
+    }
+}
+
+// In how many of the two runs an event is struck.
+fn times_struck(e: Event, a: Registers, b: Registers) -> u64 {
+    if is_retired(e) {
+        wrapping_add_u64(flag(is_off(a)), flag(is_off(b)))
+    } else {
+        0
+    }
+}
+
+// An event with A's answer, and whether B's is the same. If it is left in one run only, the answers
+// left are unequal.
+fn tallied(t: Tally, struck: u64, same: bool, number: u64, value: u64) -> Tally {
+    let mut next = t;
+    next.words_struck = wrapping_add_u64(next.words_struck, struck);
+    if struck == 0 {
+        next.events_left = wrapping_add_u64(next.events_left, 1);
+        next.answers_unequal = wrapping_add_u64(next.answers_unequal, flag(!same));
+        next.answers = digest_answer(next.answers, number, value);
+    }
+    if struck == 1 {
+        next.answers_unequal = wrapping_add_u64(next.answers_unequal, 1);
+    }
+    next
+}
+
+// One event for both runs.
+fn run_shared(
+    ctrsource: &mut [u64; ENTRIES],
+    ctrtarget: &mut [u64; ENTRIES],
+    ctrdata: &mut [u64; ENTRIES],
+    p: Pair,
+) -> Pair {
+    let r = p.a;
+    let s = p.b;
+    let q = s.registers;
+    let m = r.mode;
+    let drawn = draw_event(p.tally.random, m);
+    let e = drawn.event;
+    let source = xorshift64(drawn.random);
+    let target = xorshift64(source);
+    let other = with_addresses(e, r, q, source, target);
+    let a = step_in_place(ctrsource, ctrtarget, ctrdata, r, e);
+    let b = step(s, other);
+    let same = a.number == b.number && a.value == b.value;
+    let mut tally = tallied(p.tally, times_struck(e, r, q), same, a.number, a.value);
+    tally.random = target;
+    let differed = differing_addresses(e, other);
+    tally.addresses_differed = wrapping_add_u64(tally.addresses_differed, differed);
+    let registers = a.registers;
+    let state = b.state;
+    Pair {
+        a: registers,
+        b: state,
+        alone_in_a: p.alone_in_a,
+        alone_in_b: p.alone_in_b,
+        tally,
+    }
+}
+
+// The end of a pair.
+fn ended(
+    ctrsource: &[u64; ENTRIES],
+    ctrtarget: &[u64; ENTRIES],
+    ctrdata: &[u64; ENTRIES],
+    p: Pair,
+) -> Tally {
+    let r = p.a;
+    let s = p.b;
+    let same = is_same(s, r, ctrsource, ctrtarget, ctrdata);
+    let mut t = p.tally;
+    t.unequal_lengths = wrapping_add_u64(t.unequal_lengths, flag(p.alone_in_a != p.alone_in_b));
+    let struck = wrapping_add_u64(p.alone_in_a, p.alone_in_b);
+    t.words_struck = wrapping_add_u64(t.words_struck, struck);
+    t.end_states_unequal = wrapping_add_u64(t.end_states_unequal, flag(!same));
+    t.end_states = digest_state(t.end_states, r, ctrsource, ctrtarget, ctrdata);
+    t
+}
+
+fn started(t: Tally, random: u64, good: bool) -> Tally {
+    let mut next = t;
+    next.random = random;
+    next.bad_starts = wrapping_add_u64(next.bad_starts, flag(!good));
+    next
+}
+
+fn run_pair(t: Tally) -> Tally {
+    let mut ctrsource = [0; ENTRIES];
+    let mut ctrtarget = [0; ENTRIES];
+    let mut ctrdata = [0; ENTRIES];
+    let start = draw_registers(t.random);
+    let filled = draw_entries(&mut ctrsource, &mut ctrtarget, &mut ctrdata, start.random);
+    let registers = start.registers;
+    let mut p = Pair {
+        a: registers,
+        b: State {
+            registers,
+            ctrsource,
+            ctrtarget,
+            ctrdata,
+        },
+        alone_in_a: 0,
+        alone_in_b: 0,
+        tally: started(t, filled, is_good(registers)),
+    };
+    for _ in 0..TURNS {
+        p = run_alone(&mut ctrsource, &mut ctrtarget, &mut ctrdata, p);
+        p = run_shared(&mut ctrsource, &mut ctrtarget, &mut ctrdata, p);
+    }
+    ended(&ctrsource, &ctrtarget, &ctrdata, p)
+}
+
+fn run_pairs() -> Tally {
+    let mut t = Tally {
+        random: SEED,
+        bad_starts: 0,
+        unequal_lengths: 0,
+        words_struck: 0,
+        addresses_differed: 0,
+        events_left: 0,
+        answers_unequal: 0,
+        end_states_unequal: 0,
+        answers: 0,
+        end_states: 0,
+    };
+    for _ in 0..PAIRS {
+        t = run_pair(t);
+    }
+    t
+}
+
+pub fn report() {
+    let t = run_pairs();
+    let mut out = [0u8; 1024];
+    let mut at = text::put(&mut out, 0, b"pairs\n");
+    at = put_count(&mut out, at, b"  pairs ", PAIRS);
+    at = put_count(&mut out, at, b"  bad starts ", t.bad_starts);
+    at = put_count(&mut out, at, b"  unequal lengths ", t.unequal_lengths);
+    at = put_count(&mut out, at, b"  words struck ", t.words_struck);
+    at = put_count(&mut out, at, b"  addresses differed ", t.addresses_differed);
+    at = put_count(&mut out, at, b"  events left ", t.events_left);
+    at = put_count(&mut out, at, b"  answers unequal ", t.answers_unequal);
+    at = put_count(&mut out, at, b"  end states unequal ", t.end_states_unequal);
+    at = put_word(&mut out, at, b"  answers 0x", t.answers);
+    at = put_word(&mut out, at, b"  end states 0x", t.end_states);
+    io::write_all(STDOUT_FILENO, text::before(&out, at));
+}

@@ -1,0 +1,137 @@
+// Long lists of random events, each from a random state.
+use crate::draw_events::draw_event;
+use crate::draw_states::draw_entries;
+use crate::draw_states::draw_registers;
+use crate::events::is_transfer;
+use crate::states::digest_state;
+use libc::STDOUT_FILENO;
+use machine::Registers;
+use machine::regs::is_good;
+use recorder::ENTRIES;
+use recorder::steps::step_in_place;
+use std::num::wrapping_add_u64;
+use sweep_support::codes::flag;
+use sweep_support::digests::digest_answer;
+use sweep_support::lines::put_count;
+use sweep_support::lines::put_counts;
+use sweep_support::lines::put_word;
+use test_support::SEED;
+
+// What was seen, and the last word drawn.
+struct Tally {
+    random: u64,
+    bad_starts: u64,
+    events: u64,
+    numbers: [u64; 6],
+    values: [u64; 5],
+    answers: u64,
+    states: u64,
+}
+
+// A list under way, but for its entries.
+struct List {
+    registers: Registers,
+    tally: Tally,
+}
+
+const LISTS: u64 = 1000;
+
+// From a bad state every event has the same answer, so fewer are run.
+fn events_from(good: bool) -> u64 {
+    if good { 400 } else { 40 }
+}
+
+fn tallied(t: Tally, transfer: bool, number: u64, value: u64) -> Tally {
+    let mut next = t;
+    next.events = wrapping_add_u64(next.events, 1);
+    let k = (number % 6) as usize;
+    next.numbers[k] = wrapping_add_u64(next.numbers[k], 1);
+    if transfer && number == 0 {
+        let v = (value % 5) as usize;
+        next.values[v] = wrapping_add_u64(next.values[v], 1);
+    }
+    next.answers = digest_answer(next.answers, number, value);
+    next
+}
+
+fn started(t: Tally, random: u64, good: bool) -> Tally {
+    let mut next = t;
+    next.random = random;
+    next.bad_starts = wrapping_add_u64(next.bad_starts, flag(!good));
+    next
+}
+
+// One event, on entries that stay in place.
+fn run_event(
+    ctrsource: &mut [u64; ENTRIES],
+    ctrtarget: &mut [u64; ENTRIES],
+    ctrdata: &mut [u64; ENTRIES],
+    l: List,
+) -> List {
+    let r = l.registers;
+    let m = r.mode;
+    let drawn = draw_event(l.tally.random, m);
+    let e = drawn.event;
+    let a = step_in_place(ctrsource, ctrtarget, ctrdata, r, e);
+    let registers = a.registers;
+    let mut tally = tallied(l.tally, is_transfer(e), a.number, a.value);
+    tally.random = drawn.random;
+    tally.states = digest_state(tally.states, registers, ctrsource, ctrtarget, ctrdata);
+    List { registers, tally }
+}
+
+fn run_list(t: Tally) -> Tally {
+    let mut ctrsource = [0; ENTRIES];
+    let mut ctrtarget = [0; ENTRIES];
+    let mut ctrdata = [0; ENTRIES];
+    let start = draw_registers(t.random);
+    let filled = draw_entries(&mut ctrsource, &mut ctrtarget, &mut ctrdata, start.random);
+    let registers = start.registers;
+    let good = is_good(registers);
+    let events = events_from(good);
+    let mut l = List {
+        registers,
+        tally: started(t, filled, good),
+    };
+    for _ in 0..events {
+        l = run_event(&mut ctrsource, &mut ctrtarget, &mut ctrdata, l);
+    }
+    l.tally
+}
+
+fn run_lists() -> Tally {
+    let mut t = Tally {
+        random: SEED,
+        bad_starts: 0,
+        events: 0,
+        numbers: [0; 6],
+        values: [0; 5],
+        answers: 0,
+        states: 0,
+    };
+    for _ in 0..LISTS {
+        t = run_list(t);
+    }
+    t
+}
+
+// How often each number was answered, and each value.
+fn put_answers(out: &mut [u8], at: usize, numbers: [u64; 6], values: [u64; 5]) -> usize {
+    let next = put_counts(out, at, b"  number ", &numbers);
+    put_counts(out, next, b"  value ", &values)
+}
+
+pub fn report() {
+    let t = run_lists();
+    let mut out = [0u8; 1024];
+    let mut at = text::put(&mut out, 0, b"random run\n");
+    at = put_count(&mut out, at, b"  lists ", LISTS);
+    at = put_count(&mut out, at, b"  bad starts ", t.bad_starts);
+    at = put_count(&mut out, at, b"  events ", t.events);
+    let numbers = t.numbers;
+    let values = t.values;
+    at = put_answers(&mut out, at, numbers, values);
+    at = put_word(&mut out, at, b"  answers 0x", t.answers);
+    at = put_word(&mut out, at, b"  states 0x", t.states);
+    io::write_all(STDOUT_FILENO, text::before(&out, at));
+}

@@ -1,0 +1,69 @@
+// Whole states: their digest, and whether two are equal.
+use machine::Entry;
+use machine::Registers;
+use recorder::ENTRIES;
+use recorder::State;
+use sweep_support::codes::mode_code;
+use sweep_support::digests::digest_entry;
+use sweep_support::digests::digest_registers;
+
+// The digest h with the registers and every entry taken in.
+pub fn digest_state(
+    h: u64,
+    r: Registers,
+    ctrsource: &[u64; ENTRIES],
+    ctrtarget: &[u64; ENTRIES],
+    ctrdata: &[u64; ENTRIES],
+) -> u64 {
+    let mut d = digest_registers(h, r);
+    for i in 0..ENTRIES {
+        let e = Entry {
+            ctrsource: ctrsource[i],
+            ctrtarget: ctrtarget[i],
+            ctrdata: ctrdata[i],
+        };
+        d = digest_entry(d, e);
+    }
+    d
+}
+
+fn same_registers(a: Registers, b: Registers) -> bool {
+    let m = a.mode;
+    let n = b.mode;
+    mode_code(m) == mode_code(n)
+        && a.mctrctl == b.mctrctl
+        && a.vsctrctl == b.vsctrctl
+        && a.sctrdepth == b.sctrdepth
+        && a.wrptr == b.wrptr
+        && a.frozen == b.frozen
+        && a.siselect == b.siselect
+        && a.vsiselect == b.vsiselect
+        && a.mstateen0 == b.mstateen0
+        && a.hstateen0 == b.hstateen0
+}
+
+fn same_words(a: &[u64; ENTRIES], b: &[u64; ENTRIES]) -> bool {
+    let mut differing = 0;
+    for i in 0..ENTRIES {
+        differing = differing | (a[i] ^ b[i]);
+    }
+    differing == 0
+}
+
+// Whether a state has these registers and entries.
+pub fn is_same(
+    s: State,
+    r: Registers,
+    ctrsource: &[u64; ENTRIES],
+    ctrtarget: &[u64; ENTRIES],
+    ctrdata: &[u64; ENTRIES],
+) -> bool {
+    let q = s.registers;
+    let sources = s.ctrsource;
+    let targets = s.ctrtarget;
+    let data = s.ctrdata;
+    same_registers(q, r)
+        && same_words(&sources, ctrsource)
+        && same_words(&targets, ctrtarget)
+        && same_words(&data, ctrdata)
+}

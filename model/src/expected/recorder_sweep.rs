@@ -1,0 +1,31 @@
+//! The expected output of `recorder_sweep`: the published cases, long random lists of events, and
+//! pairs of lists that differ only where modes are off.
+
+mod bench_lines;
+mod draw;
+mod pairs;
+mod random_run;
+
+use self::bench_lines::bench_lines;
+use self::pairs::pairs;
+use self::random_run::random_run;
+use crate::access::Answer;
+use crate::digest::extended;
+use crate::recorder::Machine;
+use crate::registers::Entry;
+
+/// What `recorder_sweep` prints.
+pub fn recorder_sweep() -> String {
+    bench_lines() + &random_run() + &pairs()
+}
+
+/// The digest of a list that goes on with an answer.
+fn with_answer(h: u64, answer: Answer) -> u64 {
+    extended(h, [answer.number.into(), answer.value])
+}
+
+/// The digest of a list that goes on with every field and every entry of a state.
+fn with_state(h: u64, machine: &Machine) -> u64 {
+    let h = extended(h, machine.registers.fields());
+    extended(h, machine.entries.iter().flat_map(Entry::words))
+}

@@ -1,0 +1,174 @@
+//! Pairs of lists that are equal but for what belongs to modes that are off: words retired there,
+//! and addresses on their side. The answers and the end states have to be equal.
+
+use std::mem;
+
+use super::{with_answer, with_state};
+use crate::access::Answer;
+use crate::expected::random::Random;
+use crate::recorder::{Event, Machine};
+use crate::registers::Mode;
+
+const PAIRS: u32 = 4000;
+
+/// How many events the lists of a pair have in common; some of these may be struck.
+const TURNS: u32 = 16;
+
+/// One run of a pair. Words retired in a mode that is off are struck.
+struct Run {
+    machine: Machine,
+    events: u32,
+    struck: u32,
+}
+
+impl Run {
+    fn new(machine: Machine) -> Run {
+        Run {
+            machine,
+            events: 0,
+            struck: 0,
+        }
+    }
+
+    fn mode(&self) -> Mode {
+        self.machine.registers.mode
+    }
+
+    fn is_off(&self, mode: Mode) -> bool {
+        !self.machine.registers.is_on(mode)
+    }
+
+    /// What is answered to the event, unless it is struck.
+    fn step(&mut self, event: Event) -> Option<Answer> {
+        let is_struck = matches!(event, Event::Retired(_)) && self.is_off(self.mode());
+        self.events += 1;
+        self.struck += u32::from(is_struck);
+        let answer = self.machine.step(event);
+        (!is_struck).then_some(answer)
+    }
+
+    /// Words that only this run has, if they are struck.
+    fn retire_words(&mut self, random: &mut Random, count: u64) {
+        if self.is_off(self.mode()) {
+            for _ in 0..count {
+                self.step(random.retired_word());
+            }
+        }
+    }
+}
+
+/// What the pairs had in them, how often they were unequal, and digests of what is left of the
+/// first run of each.
+#[derive(Default)]
+struct Tally {
+    bad_starts: u32,
+    unequal_lengths: u32,
+    words_struck: u32,
+    addresses_differed: u32,
+    events_left: u32,
+    answers_unequal: u32,
+    end_states_unequal: u32,
+    answers: u64,
+    end_states: u64,
+}
+
+impl Tally {
+    /// The answers to one event in both runs. If only one run has it struck, what is left of the
+    /// lists is unequal, and so are the answers.
+    fn add_answers(&mut self, answers: (Option<Answer>, Option<Answer>)) {
+        match answers {
+            (None, None) => {}
+            (Some(a), Some(b)) => {
+                self.events_left += 1;
+                self.answers_unequal += u32::from(a != b);
+                self.answers = with_answer(self.answers, a);
+            }
+            _ => self.answers_unequal += 1,
+        }
+    }
+
+    fn add_ends(&mut self, a: &Run, b: &Run) {
+        self.unequal_lengths += u32::from(a.events != b.events);
+        self.words_struck += a.struck + b.struck;
+        self.end_states_unequal += u32::from(a.machine != b.machine);
+        self.end_states = with_state(self.end_states, &a.machine);
+    }
+
+    fn lines(&self) -> String {
+        let counts = [
+            ("bad starts", self.bad_starts),
+            ("unequal lengths", self.unequal_lengths),
+            ("words struck", self.words_struck),
+            ("addresses differed", self.addresses_differed),
+            ("events left", self.events_left),
+            ("answers unequal", self.answers_unequal),
+            ("end states unequal", self.end_states_unequal),
+        ];
+        let mut text: String = counts
+            .iter()
+            .map(|(name, count)| format!("  {name} {count}\n"))
+            .collect();
+        text += &format!("  answers 0x{:016x}\n", self.answers);
+        text + &format!("  end states 0x{:016x}\n", self.end_states)
+    }
+}
+
+pub(super) fn pairs() -> String {
+    let mut random = Random::from_seed();
+    let mut tally = Tally::default();
+    for _ in 0..PAIRS {
+        add_pair(&mut tally, &mut random);
+    }
+    format!("pairs\n  pairs {PAIRS}\n{}", tally.lines())
+}
+
+fn add_pair(tally: &mut Tally, random: &mut Random) {
+    let start = random.machine();
+    tally.bad_starts += u32::from(start.registers.is_bad());
+    let (mut a, mut b) = (Run::new(start.clone()), Run::new(start));
+    for _ in 0..TURNS {
+        let n = random.draw();
+        a.retire_words(random, n % 4);
+        b.retire_words(random, n / 4 % 4);
+
+        let event = random.event(a.mode());
+        let mut other = event;
+        let addresses = random.draw_all();
+        tally.addresses_differed += replace_addresses(&mut other, addresses, &a, &b);
+        tally.add_answers((a.step(event), b.step(other)));
+    }
+    tally.add_ends(&a, &b);
+}
+
+/// Replaces the addresses whose side is off in both runs, and tells how many of them differ now.
+fn replace_addresses(event: &mut Event, [p, q]: [u64; 2], a: &Run, b: &Run) -> u32 {
+    let (source, target, target_mode) = match event {
+        Event::Trap(trap) => (&mut trap.epc, &mut trap.handler, trap.target_mode),
+        Event::TrapReturn(trap_return) => (
+            &mut trap_return.pc,
+            &mut trap_return.target,
+            trap_return.target_mode,
+        ),
+        _ => return 0,
+    };
+    let mut differing = 0;
+    if a.is_off(a.mode()) && b.is_off(b.mode()) {
+        differing += u32::from(mem::replace(source, p) != p);
+    }
+    if a.is_off(target_mode) && b.is_off(target_mode) {
+        differing += u32::from(mem::replace(target, q) != q);
+    }
+    differing
+}
+
+#[cfg(test)]
+mod tests {
+    use super::*;
+
+    #[test]
+    fn no_pair_is_unequal() {
+        let text = pairs();
+        assert!(text.contains("\n  answers unequal 0\n"));
+        assert!(text.contains("\n  end states unequal 0\n"));
+    }
+}
