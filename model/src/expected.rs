@@ -1,15 +1,18 @@
-//! The expected output of the programs below crates/, and the input they are fed with.
+//! The expected output of the programs below crates/, the input they are fed with, and setups for
+//! the traces of examples/.
 
 mod access_sweep;
 mod random;
 mod recorder_sweep;
+mod traces;
 
 use std::fs;
 use std::iter::successors;
 use std::path::{Path, PathBuf};
 
 pub use self::access_sweep::access_sweep;
-pub use self::recorder_sweep::recorder_sweep;
+pub use self::recorder_sweep::{random_events, recorder_sweep};
+use self::traces::{replay_files, setup_files};
 use crate::classifier::{name, transfer_type};
 use crate::digest::{digest, xorshift64, SEED};
 use crate::encode::{branch, c_jalr, c_jr, jal, jalr};
@@ -18,7 +21,7 @@ use crate::encode::{branch, c_jalr, c_jr, jal, jalr};
 pub fn files() -> Vec<(&'static str, Vec<u8>)> {
     let input = classify_input();
     let output = classify(&input);
-    vec![
+    let mut files = vec![
         ("crates/classify/stdin", input),
         ("crates/classify/stdout", output.into_bytes()),
         (
@@ -30,7 +33,10 @@ pub fn files() -> Vec<(&'static str, Vec<u8>)> {
             "crates/recorder_sweep/stdout",
             recorder_sweep().into_bytes(),
         ),
-    ]
+    ];
+    files.extend(setup_files());
+    files.extend(replay_files());
+    files
 }
 
 /// The folder that the paths of `files` start from.

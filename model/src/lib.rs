@@ -8,3 +8,4 @@ mod encode;
 pub mod expected;
 pub mod recorder;
 pub mod registers;
+pub mod replay;

@@ -77,6 +77,16 @@ pub enum Event {
     },
 }
 
+impl Event {
+    /// Whether the value answered tells what was recorded. Those of accesses are readings.
+    pub(crate) fn is_transfer(&self) -> bool {
+        matches!(
+            self,
+            Event::Retired(_) | Event::Trap(_) | Event::TrapReturn(_)
+        )
+    }
+}
+
 impl Machine {
     /// The registers' reset, and all entries 0.
     pub fn reset() -> Machine {

@@ -1,4 +1,4 @@
-//! The stored files of the programs below crates/ are the ones that the model makes.
+//! The stored files below crates/ and examples/ are the ones that the model makes.
 
 use std::path::PathBuf;
 use std::{env, fs, process};
@@ -72,13 +72,15 @@ fn empty_folder() -> PathBuf {
 fn files_are_written_into_folders_that_are_there() {
     let root = empty_folder();
     let refusal = write_files(&root);
-    for program in [
-        "classify",
-        "classifier_sweep",
-        "access_sweep",
-        "recorder_sweep",
+    for folder in [
+        "crates/classify",
+        "crates/classifier_sweep",
+        "crates/access_sweep",
+        "crates/recorder_sweep",
+        "crates/replay/data",
+        "examples/traces",
     ] {
-        fs::create_dir_all(root.join("crates").join(program)).expect("a new folder");
+        fs::create_dir_all(root.join(folder)).expect("a new folder");
     }
     let result = write_files(&root);
     let written = files()

@@ -14,7 +14,8 @@ fn frozen_bit(frozen: bool) -> u64
     if frozen { 0x8000_0000 } else { 0 }
 }
 
-fn status(r: Registers) -> u64
+// sctrstatus as it reads.
+pub fn status(r: Registers) -> u64
     ensures { λ x. ⌜ x ≡ statusOf r ⌝ }
 {
     bits::low(r.wrptr, 8) + frozen_bit(r.frozen)

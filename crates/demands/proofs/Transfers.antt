@@ -1,18 +1,21 @@
 -- What `Transfers` of demand 2 states. Assumes nothing.
 use Prim.Native.Nat.{ℕ, _%_, _≤_}
 use mathlib.Core.Path.{_≡_, refl, sym, ap, _∙_}
-use mathlib.Core.Bool.{Bool, true, false, false≢true}
+use mathlib.Core.Bool.{Bool, true, false, not, _&&_, false≢true}
+use Rattle.bits.specs.Choice.{if_then_else_}
 use mathlib.Core.Logic.{_⊎_, inl, inr, ⊎-elim}
 use native.Mathlib.Nat.{mod-eq-of-lt, zero-mod}
 use native.Mathlib.Omega.{arith}
 use Rattle.classifier.specs.Transfers.{transferOf, typeOf}
+use Rattle.machine.specs.Filters.{inhibitedOf}
+use Rattle.machine.specs.Modes.{onOf, governingOf}
 use Rattle.machine.specs.Regs.{depthOf, physicalOf, goodOf}
 use Rattle.machine.specs.declared.Decision.{Decision}
 use Rattle.machine.specs.declared.Entry.{Entry}
 use Rattle.machine.specs.declared.Mode.{Mode}
 use Rattle.machine.specs.declared.Registers.{Registers}
 use Rattle.transfers.specs.Changes.{possibleTrap, possibleReturn}
-use Rattle.transfers.specs.Outcomes.{retiredOutcome, trapBy, trapOutcome, returnBy, returnOutcome}
+use Rattle.transfers.specs.Outcomes.{stackOutcome, rasemuOf, onOutcome, retiredOutcome, trapBy, trapOutcome, returnBy, returnOutcome}
 use Rattle.transfers.specs.Records as Records
 use Rattle.transfers.specs.Records.{entryFor, sidePc, advanced, retreated}
 use Rattle.transfers.specs.Transfers as Done
@@ -116,11 +119,27 @@ abbrev pub Steps : State → Event → Type 0
 Steps s e =
     (stepOf s e .value ≡ valueOf (outcomeIn (s .registers) e)) × (stepOf s e .state ≡ stateFor s e (outcomeIn (s .registers) e))
 
+-- the entry that a retired word is about is the one that its outcome is about, if that puts one
+retired-at : (s : State) (word pc target : ℕ) (taken : Bool) → Free (s .registers) → (on fr ra inh : Bool)
+    → (let t = transferOf word in
+    let o = if on && not fr then onOutcome ra inh t else Nothing in
+    let at = if ra then Done.focusOf (s .registers) (stackOutcome t) else atWrptr (s .registers) in
+    Does s (Retired word pc target taken) (doneOf (s .registers) (entryAt (entriesIn s) at) (entryFor pc target (typeOf t taken)) o) at o)
+unfolding onOutcome doneOf Done.focusOf appliedOf
+retired-at s word pc target taken f true false true inh = retired-does s word pc target taken f (stackOutcome (transferOf word))
+retired-at s word pc target taken f true false false true = (refl, refl)
+retired-at s word pc target taken f true false false false = retired-does s word pc target taken f Record
+retired-at s word pc target taken f true true ra inh = (refl, refl)
+retired-at s word pc target taken f false fr ra inh = (refl, refl)
+
 retired-steps : (s : State) (word pc target : ℕ) (taken : Bool) → Free (s .registers) → Steps s (Retired word pc target taken)
-unfolding stepOf decidedOf focusIn decideOf eventOf focusOf retiredFocus transferIn retiredOf outcomeIn
+unfolding stepOf decidedOf focusIn decideOf eventOf focusOf retiredFocus transferIn retiredOf retiredOutcome outcomeIn
 retired-steps s word pc target taken f =
-    rw (free-good (s .registers) f)
-    (retired-does s word pc target taken f (retiredOutcome (s .registers) (transferOf word) taken))
+    let r = s .registers in
+    let m = r .mode in
+    rw (free-good r f)
+    (retired-at s word pc target taken f (onOf r m) (r .frozen) (rasemuOf r m m)
+    (inhibitedOf (governingOf r m m) (typeOf (transferOf word) taken)))
 
 trap-steps : (s : State) (to : Mode) (interrupt : Bool) (cause epc handler : ℕ) → Free (s .registers)
     → possibleTrap (s .registers .mode) to ≡ true → Steps s (Trap to interrupt cause epc handler)

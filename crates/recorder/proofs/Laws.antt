@@ -1,7 +1,9 @@
 -- The entry in focus is one of the entries, and what the two steps do, put together. Assumes nothing.
 use mathlib.Core.Path.{_≡_, refl, _∙_}
+use mathlib.Core.Bool.{Bool, true, false}
 use Prim.Native.Nat.{ℕ, _<_}
 use lib.ListN.{length-set}
+use Rattle.bits.specs.Choice.{if_then_else_}
 use Rattle.classifier.specs.declared.Transfer.{Transfer}
 use Rattle.machine.proofs.Depths.{wrapped-lt}
 use Rattle.machine.specs.Regs.{physicalOf}
@@ -10,7 +12,7 @@ use Rattle.machine.specs.declared.Decision.{Decision}
 use Rattle.machine.specs.declared.Effect.{Effect}
 use Rattle.machine.specs.declared.Effect.the-variants.{Keep, Put, ClearAll}
 use Rattle.access.specs.Accesses as Accesses
-use Rattle.transfers.specs.Outcomes.{retiredOutcome}
+use Rattle.transfers.specs.Outcomes.{stackOutcome, rasemuOf}
 use Rattle.transfers.specs.Transfers as Transfers
 use Rattle.transfers.specs.declared.Outcome.{Outcome}
 use Rattle.transfers.specs.declared.Outcome.the-variants.{Nothing, Record, Pop, Swap, Freeze}
@@ -39,10 +41,14 @@ outcome-lt r Pop = physical-lt (r .sctrdepth) (r .wrptr) 0
 outcome-lt r Swap = physical-lt (r .sctrdepth) (r .wrptr) 0
 outcome-lt r Freeze = at-wrptr-lt r
 
+retired-lt : (r : Registers) (t : Transfer) (b : Bool) → (if b then Transfers.focusOf r (stackOutcome t) else atWrptr r) < entries
+retired-lt r t true = outcome-lt r (stackOutcome t)
+retired-lt r t false = at-wrptr-lt r
+
 -- the entry in focus is one of the entries, of bad registers too
 pub focus-lt : (r : Registers) (t : Transfer) (e : Event) → focusOf r t e < entries
 unfolding focusOf retiredFocus Accesses.focusOf
-focus-lt r t (Retired word pc target taken) = outcome-lt r (retiredOutcome r t taken)
+focus-lt r t (Retired word pc target taken) = retired-lt r t (rasemuOf r (r .mode) (r .mode))
 focus-lt r t (Trap to interrupt cause epc handler) = at-wrptr-lt r
 focus-lt r t (TrapReturn to pc target) = at-wrptr-lt r
 focus-lt r t (Access operation number operand) = physical-lt (r .sctrdepth) (r .wrptr) _

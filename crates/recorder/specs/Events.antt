@@ -1,13 +1,13 @@
 -- What an event is about: the transfer of its word, and the one physical entry that it may change.
 use Prim.Native.Nat.{ℕ, _%_}
-use mathlib.Core.Bool.{Bool}
+use Rattle.bits.specs.Choice.{if_then_else_}
 use Rattle.classifier.specs.Transfers.{transferOf}
 use Rattle.classifier.specs.declared.Transfer.{Transfer}
 use Rattle.classifier.specs.declared.Transfer.the-variants.{None}
 use Rattle.machine.specs.Regs.{depthOf}
 use Rattle.machine.specs.declared.Registers.{Registers}
 use Rattle.access.specs.Accesses as Accesses
-use Rattle.transfers.specs.Outcomes.{retiredOutcome}
+use Rattle.transfers.specs.Outcomes.{stackOutcome, rasemuOf}
 use Rattle.transfers.specs.Transfers as Transfers
 use Rattle.recorder.specs.declared.Event.{Event}
 use Rattle.recorder.specs.declared.Event.the-variants.{Retired, Trap, TrapReturn, Access, Sctrclr, Host}
@@ -25,14 +25,15 @@ transferIn (Host mstateen0 hstateen0) = None
 abbrev pub atWrptr : Registers → ℕ
 atWrptr r = r .wrptr % depthOf (r .sctrdepth)
 
--- of a retired word: the entry that its outcome is about
-unfoldable pub retiredFocus : Registers → Transfer → Bool → ℕ
-retiredFocus r t taken = Transfers.focusOf r (retiredOutcome r t taken)
+-- of a retired word: under RASEMU what the call stack makes of its transfer is about logical entry 0 or the entry at WRPTR; else
+-- a record is about the one at WRPTR
+unfoldable pub retiredFocus : Registers → Transfer → ℕ
+retiredFocus r t = if rasemuOf r (r .mode) (r .mode) then Transfers.focusOf r (stackOutcome t) else atWrptr r
 
--- the physical entry that an event is about, given the transfer of its word: that of a retired word's outcome, the one at
+-- the physical entry that an event is about, given the transfer of its word: the one above of a retired word, the one at
 -- WRPTR of a trap or return, the selected one of an access. The others are about no entry alone
 unfoldable pub focusOf : Registers → Transfer → Event → ℕ
-focusOf r t (Retired word pc target taken) = retiredFocus r t taken
+focusOf r t (Retired word pc target taken) = retiredFocus r t
 focusOf r t (Trap to interrupt cause epc handler) = atWrptr r
 focusOf r t (TrapReturn to pc target) = atWrptr r
 focusOf r t (Access operation number operand) = Accesses.focusOf r number

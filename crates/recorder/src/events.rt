@@ -1,13 +1,16 @@
 // What an event is about: the transfer of its word, and the one entry it may change.
 ghost use mathlib.Core.Path.{_≡_};
 ghost use Prim.Native.Nat.{_<_};
+ghost use Rattle.transfers.specs.Outcomes.{stackOutcome};
+ghost use Rattle.transfers.specs.Transfers as Transfers;
 ghost use Rattle.recorder.specs.Events.{transferIn, retiredFocus, focusOf};
 ghost use Rattle.recorder.specs.Entries.{entries};
 use crate::Event;
 use classifier::Transfer;
 use machine::Registers;
 use machine::regs::wrapped;
-use transfers::outcomes::retired_outcome;
+use transfers::outcomes::rasemu;
+use transfers::outcomes::stack_outcome;
 
 // The transfer that a retired word is; other events have none.
 pub fn transfer(e: Event) -> Transfer
@@ -45,11 +48,23 @@ pub fn transfer(e: Event) -> Transfer
     }
 }
 
-// The physical entry that a retired word is about.
-fn retired_focus(r: Registers, t: Transfer, taken: bool) -> u64
-    ensures { λ n. ⌜ n ≡ retiredFocus r t taken ⌝ }
+// The physical entry that the call stack's outcome is about.
+fn stack_focus(r: Registers, t: Transfer) -> u64
+    ensures { λ n. ⌜ n ≡ Transfers.focusOf r (stackOutcome t) ⌝ }
 {
-    transfers::decisions::focus(r, retired_outcome(r, t, taken))
+    transfers::decisions::focus(r, stack_outcome(t))
+}
+
+// The physical entry that a retired word is about.
+fn retired_focus(r: Registers, t: Transfer) -> u64
+    ensures { λ n. ⌜ n ≡ retiredFocus r t ⌝ }
+{
+    let m = r.mode;
+    if rasemu(r, m, m) {
+        stack_focus(r, t)
+    } else {
+        wrapped(r.wrptr, r.sctrdepth)
+    }
 }
 
 // The physical entry that an event is about, given the transfer of its word.
@@ -61,8 +76,8 @@ fn focus(r: Registers, t: Transfer, e: Event) -> u64
             word: _,
             pc: _,
             target: _,
-            taken,
-        } => retired_focus(r, t, taken),
+            taken: _,
+        } => retired_focus(r, t),
         Event::Trap {
             to: _,
             interrupt: _,

@@ -18,6 +18,10 @@ unfoldable pub number : ℕ → ℕ → ℕ → List ℕ
 number b zero n = []
 number b (suc k) n = if ltb n b then glyph n ∷ [] else number b k (n / b) ++ (glyph (n % b) ∷ [])
 
+-- 0x, which stands before a number in hexadecimal
+abbrev pub prefix : List ℕ
+prefix = 48 ∷ 120 ∷ []
+
 -- the digit with this ASCII code
 unfoldable pub digitOf : ℕ → ℕ
 digitOf g = if ltb g 58 then g - 48 else g - 87

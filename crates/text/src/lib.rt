@@ -4,7 +4,7 @@ ghost use mathlib.Core.Path.{_≡_};
 ghost use Prim.Native.Nat.{_/_, _%_, _^_, _≤_, _<_};
 ghost use lib.ListN.{take};
 ghost use Rattle.text.specs.Page.{page, withByte, written};
-ghost use Rattle.text.specs.Digits.{glyph, digits, number};
+ghost use Rattle.text.specs.Digits.{glyph, digits, number, prefix};
 
 // One byte.
 pub fn put_byte(out: &mut [u8], at: usize, b: u8) -> usize
@@ -49,6 +49,14 @@ pub fn put_decimal(out: &mut [u8], at: usize, n: u64) -> usize
     ensures { λ r. ⌜ page r (now (out .exit)) ≡ written (page at (now (out .entry))) (number 10 20 n) ⌝ }
 {
     put_number(out, at, n, 10, 20)
+}
+
+// n in hexadecimal, in lower case, with 0x and no zeros in front. 16 digits hold every u64.
+pub fn put_short_hex(out: &mut [u8], at: usize, n: u64) -> usize
+    ensures { λ r. ⌜ page r (now (out .exit)) ≡ written (written (page at (now (out .entry))) prefix) (number 16 16 n) ⌝ }
+{
+    let next = put(out, at, b"0x");
+    put_number(out, next, n, 16, 16)
 }
 
 // The bytes before a place: the text so far.

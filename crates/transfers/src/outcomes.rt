@@ -19,7 +19,7 @@ use machine::modes::governing;
 use machine::modes::is_on;
 
 // What RASEMU makes of a transfer.
-fn stack_outcome(t: Transfer) -> Outcome
+pub fn stack_outcome(t: Transfer) -> Outcome
     ensures { λ o. ⌜ o ≡ stackOutcome t ⌝ }
 {
     match t {
@@ -36,7 +36,8 @@ fn stack_outcome(t: Transfer) -> Outcome
     }
 }
 
-fn rasemu(r: Registers, source: Mode, target: Mode) -> bool
+// Whether the register that governs a transition has RASEMU.
+pub fn rasemu(r: Registers, source: Mode, target: Mode) -> bool
     ensures { λ b. ⌜ b ≡ rasemuOf r source target ⌝ }
 {
     is_set(governing(r, source, target), ControlBit::RASEMU)

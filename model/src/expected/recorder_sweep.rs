@@ -5,10 +5,12 @@ mod bench_lines;
 mod draw;
 mod pairs;
 mod random_run;
+mod random_trace;
 
 use self::bench_lines::bench_lines;
 use self::pairs::pairs;
 use self::random_run::random_run;
+pub use self::random_trace::random_events;
 use crate::access::Answer;
 use crate::digest::extended;
 use crate::recorder::Machine;

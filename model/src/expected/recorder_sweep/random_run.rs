@@ -29,7 +29,7 @@ impl Tally {
     fn add(&mut self, event: Event, answer: Answer, after: &Machine) {
         self.events += 1;
         self.numbers[usize::from(answer.number)] += 1;
-        if answer.number == 0 && is_transfer(event) {
+        if answer.number == 0 && event.is_transfer() {
             self.values[answer.value as usize] += 1;
         }
         self.answers = with_answer(self.answers, answer);
@@ -48,14 +48,6 @@ impl Tally {
         text += &format!("  answers 0x{:016x}\n", self.answers);
         text + &format!("  states 0x{:016x}\n", self.states)
     }
-}
-
-/// Whether values tell what was recorded. Those of accesses are readings.
-fn is_transfer(event: Event) -> bool {
-    matches!(
-        event,
-        Event::Retired(_) | Event::Trap(_) | Event::TrapReturn(_)
-    )
 }
 
 pub(super) fn random_run() -> String {

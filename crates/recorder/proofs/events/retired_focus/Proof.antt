@@ -1,4 +1,5 @@
 -- `recorder::events::retired_focus` meets its contract. Assumes nothing.
+use Rattle.bits.proofs.Picks.{picks}
 use Rattle.recorder.specs.Events.{retiredFocus}
 use Rattle.recorder.proofs.events.retired_focus.Statement.{statement}
 use Rattle.recorder.proofs.events.retired_focus.Tie as tie
@@ -10,4 +11,6 @@ retired-focus-spec =
     (tie.spec
     (λ c κs. tt)
     (λ c κs. tt)
-    (λ c. cc))
+    (λ c κs. tt)
+    (λ c. search picks depth 9)
+    (λ c. search picks depth 9))

@@ -1,0 +1,30 @@
+-- `replay::runs::run_file` is safe and ends. Assumes nothing.
+use mathlib.Core.Path.{_≡_}
+use lib.ListN.{length}
+use borrow.Author.Needs.{needs}
+use Rattle.replay.proofs.runs.run_file.Statement.{statement}
+use Rattle.replay.proofs.runs.run_file.Tie as tie
+
+abbrev Inv-loop : tie.InvT-loop
+Inv-loop ctrsource₀ ctrtarget₀ ctrdata₀ counts₀ out₀ file input₀ next₀ blocks₀ ctrsource ctrtarget ctrdata counts out input next blocks = (length input ≡ 65536) × (length out ≡ length out₀)
+
+abbrev μ-loop : tie.MeasureT-loop
+μ-loop ctrsource₀ ctrtarget₀ ctrdata₀ counts₀ out₀ file input₀ next₀ blocks₀ ctrsource ctrtarget ctrdata counts out input next blocks = blocks
+
+pub run-file-spec : {M : Type 1} → statement M
+run-file-spec =
+    tie.close
+    (tie.spec
+    Inv-loop
+    μ-loop
+    (λ c κs. tt)
+    (λ c. search needs)
+    (λ c. search needs)
+    (λ c κs. tt)
+    (λ c. search needs)
+    (λ c. search needs)
+    (λ c. search needs)
+    (λ c. search needs)
+    (λ c. search needs)
+    (λ c. search needs)
+    (λ c. search needs))

@@ -1,0 +1,147 @@
+// Replays traces of events through the recorder, each from reset, and prints what it recorded: the
+// answers if asked for, counts, the registers, the history and, if asked for, all entries.
+mod output;
+mod problems;
+mod report;
+mod runs;
+
+use libc::STDOUT_FILENO;
+
+// What an argument before the traces is.
+enum Flag {
+    None,
+    Answers,
+    State,
+    Help,
+    Unknown,
+}
+
+// What the flags ask for, and the number of the first argument after them.
+struct Options {
+    answers: bool,
+    state: bool,
+    help: bool,
+    is_known: bool,
+    first: usize,
+}
+
+fn is(argument: &[u8], name: &[u8]) -> bool {
+    if argument.len() != name.len() {
+        return false;
+    }
+    let mut i = 0;
+    while i < argument.len() && i < name.len() {
+        if argument[i] != name[i] {
+            return false;
+        }
+        i += 1;
+    }
+    true
+}
+
+fn begins_with_dash(argument: &[u8]) -> bool {
+    argument.len() > 0 && argument[0] == b'-'
+}
+
+fn flag_of(argument: &[u8]) -> Flag {
+    if !begins_with_dash(argument) {
+        Flag::None
+    } else if is(argument, b"--answers") {
+        Flag::Answers
+    } else if is(argument, b"--state") {
+        Flag::State
+    } else if is(argument, b"--help") {
+        Flag::Help
+    } else {
+        Flag::Unknown
+    }
+}
+
+// The options with argument i read. One that is no flag ends them.
+fn with_argument(o: Options, i: usize, argument: &[u8]) -> Options {
+    let mut next = o;
+    match flag_of(argument) {
+        Flag::None => next.first = i,
+        Flag::Answers => next.answers = true,
+        Flag::State => next.state = true,
+        Flag::Help => next.help = true,
+        Flag::Unknown => {
+            problems::unknown_flag(argument);
+            next.is_known = false;
+        }
+    }
+    next
+}
+
+fn read_argument(o: Options, i: usize) -> Options {
+    let mut buffer = io::buffer();
+    let length = os::arg(i, &mut buffer);
+    with_argument(o, i, text::before(&buffer, length))
+}
+
+fn read_options(count: usize) -> Options {
+    let mut o = Options {
+        answers: false,
+        state: false,
+        help: false,
+        is_known: true,
+        first: count,
+    };
+    let mut i = 1;
+    while i < count && o.first == count && o.is_known && !o.help {
+        o = read_argument(o, i);
+        i += 1;
+    }
+    o
+}
+
+fn print_usage() {
+    io::write_all(
+        STDOUT_FILENO,
+        b"usage: replay [--answers] [--state] TRACE...\nReplays traces of events through the recorder, each from reset, and prints what it recorded.\n  --answers  first the answer to each event: its number, and its value in hex\n  --state    last all physical entries: index, ctrsource, ctrtarget and ctrdata\nA trace is a file of little-endian 64-bit words, four to an event.\n",
+    );
+}
+
+// Argument i as a trace.
+fn run_argument(out: &mut [u8], at: usize, i: usize, is_one_of_several: bool, o: Options) -> usize {
+    let mut buffer = io::buffer();
+    let length = os::arg(i, &mut buffer);
+    if os::errno() != 0 {
+        os::fail(b"replay: a trace's name");
+        return at;
+    }
+    runs::replay(
+        out,
+        at,
+        text::before(&buffer, length),
+        is_one_of_several,
+        o.answers,
+        o.state,
+    )
+}
+
+fn run_traces(count: usize, o: Options) {
+    let mut out = io::large_buffer();
+    let mut at = 0;
+    let mut i = o.first;
+    let is_one_of_several = o.first < count && count - o.first > 1;
+    while i < count {
+        at = run_argument(&mut out, at, i, is_one_of_several, o);
+        i += 1;
+    }
+    output::flush(&out, at);
+}
+
+fn main() {
+    let count = os::arg_count();
+    let o = read_options(count);
+    if o.is_known {
+        if count < 2 || o.help {
+            print_usage();
+        } else if o.first < count {
+            run_traces(count, o);
+        } else {
+            problems::no_trace();
+        }
+    }
+}

@@ -1,0 +1,18 @@
+-- `trace::rows::access_row` meets its contract. Assumes nothing.
+use Rattle.bits.proofs.Picks.{picks}
+use Rattle.trace.specs.Rows.{accessRow}
+use Rattle.trace.proofs.rows.access_row.Statement.{statement}
+use Rattle.trace.proofs.rows.access_row.Tie as tie
+
+pub access-row-spec : {M : Type 1} → statement M
+unfolding accessRow
+access-row-spec =
+    tie.close
+    (tie.spec
+    (λ c κs. tt)
+    (λ c κs. tt)
+    (λ c κs. tt)
+    (λ c. search picks depth 9)
+    (λ c. search picks depth 9)
+    (λ c. search picks depth 9)
+    (λ c. search picks depth 9))

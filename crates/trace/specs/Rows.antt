@@ -1,0 +1,92 @@
+-- Rows of a trace: what four words mean. Word 0 has the kind in bits 7..0 and what the kind needs above; any bit that a kind does
+-- not name, and any word that it does not name, is 0. Malformed gives the first word that breaks a rule.
+use Prim.Native.Nat.{ℕ, _%_, _^_}
+use mathlib.Core.Bool.{Bool, _&&_}
+use lib.Dec.{eqb, ltb}
+use Rattle.bits.specs.Choice.{if_then_else_}
+use Rattle.bits.specs.Words.{bitAt, fieldAt}
+use Rattle.machine.specs.declared.Mode.{Mode}
+use Rattle.machine.specs.declared.Mode.the-variants.{U, S, M, VU, VS}
+use Rattle.access.specs.declared.Operation.{Operation}
+use Rattle.access.specs.declared.Operation.the-variants.{Read, Write, Set, Clear}
+use Rattle.recorder.specs.declared.Event.{Event}
+use Rattle.recorder.specs.declared.Event.the-variants.{Retired, Trap, TrapReturn, Access, Sctrclr, Host}
+use Rattle.trace.specs.declared.Row.{Row}
+use Rattle.trace.specs.declared.Row.the-variants.{WellFormed, Malformed}
+
+-- mode codes: U 0, S 1, M 2, VU 3, VS 4; there are no others
+unfoldable pub modeOf : ℕ → Mode
+modeOf code =
+    if eqb code 0 then U
+    else (if eqb code 1 then S
+    else (if eqb code 2 then M
+    else (if eqb code 3 then VU else VS)))
+
+-- word 0 has a mode code in bits 10..8, and no bit from a limit up
+unfoldable pub withMode : ℕ → ℕ → Bool
+withMode w limit = ltb w limit && ltb (fieldAt w 8 3) 5
+
+-- operation codes, two bits: read 0, write 1, set 2, clear 3
+unfoldable pub operationOf : ℕ → Operation
+operationOf code = if eqb code 0 then Read else (if eqb code 1 then Write else (if eqb code 2 then Set else Clear))
+
+-- kind 0, a retired word: taken in bit 8; instruction below 2^32, pc, target
+unfoldable pub retiredRow : ℕ → ℕ → ℕ → ℕ → Row
+retiredRow w word pc target =
+    if ltb w (2 ^ 9)
+    then (if ltb word (2 ^ 32) then WellFormed (Retired word pc target (eqb (bitAt w 8) 1)) else Malformed 1)
+    else Malformed 0
+
+-- kind 1, a trap: target mode in bits 10..8, interrupt in bit 11; cause, epc, handler
+unfoldable pub trapRow : ℕ → ℕ → ℕ → ℕ → Row
+trapRow w cause epc handler =
+    if withMode w (2 ^ 12)
+    then WellFormed (Trap (modeOf (fieldAt w 8 3)) (eqb (bitAt w 11) 1) cause epc handler)
+    else Malformed 0
+
+-- kind 2, a trap return: target mode in bits 10..8; 0, pc, target
+unfoldable pub returnRow : ℕ → ℕ → ℕ → ℕ → Row
+returnRow w zero pc target =
+    if withMode w (2 ^ 11)
+    then (if eqb zero 0 then WellFormed (TrapReturn (modeOf (fieldAt w 8 3)) pc target) else Malformed 1)
+    else Malformed 0
+
+-- kind 3, a register access: operation in bits 9..8; CSR number below 4096, operand, 0
+unfoldable pub accessRow : ℕ → ℕ → ℕ → ℕ → Row
+accessRow w number operand zero =
+    if ltb w (2 ^ 10)
+    then (if ltb number 4096
+    then (if eqb zero 0 then WellFormed (Access (operationOf (fieldAt w 8 2)) number operand) else Malformed 3)
+    else Malformed 1)
+    else Malformed 0
+
+-- an event whose words 1 to 3 are zeros
+unfoldable pub zerosRow : ℕ → ℕ → ℕ → Event → Row
+zerosRow a b c e =
+    if eqb a 0
+    then (if eqb b 0 then (if eqb c 0 then WellFormed e else Malformed 3) else Malformed 2)
+    else Malformed 1
+
+-- kind 4, SCTRCLR
+unfoldable pub sctrclrRow : ℕ → ℕ → ℕ → ℕ → Row
+sctrclrRow w a b c = if ltb w (2 ^ 8) then zerosRow a b c Sctrclr else Malformed 0
+
+-- kind 5, the host's event: mstateen0.CTR in bit 8, hstateen0.CTR in bit 9
+unfoldable pub hostRow : ℕ → ℕ → ℕ → ℕ → Row
+hostRow w a b c =
+    if ltb w (2 ^ 10) then zerosRow a b c (Host (eqb (bitAt w 8) 1) (eqb (bitAt w 9) 1)) else Malformed 0
+
+-- a row by its kind; there are no others
+unfoldable pub rowBy : ℕ → ℕ → ℕ → ℕ → ℕ → Row
+rowBy kind w a b c =
+    if eqb kind 0 then retiredRow w a b c
+    else (if eqb kind 1 then trapRow w a b c
+    else (if eqb kind 2 then returnRow w a b c
+    else (if eqb kind 3 then accessRow w a b c
+    else (if eqb kind 4 then sctrclrRow w a b c
+    else (if eqb kind 5 then hostRow w a b c
+    else Malformed 0)))))
+
+-- the row of four words
+unfoldable pub rowOf : ℕ → ℕ → ℕ → ℕ → Row
+rowOf w a b c = rowBy (w % 2 ^ 8) w a b c

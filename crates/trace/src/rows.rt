@@ -1,0 +1,268 @@
+// A row: word 0 has the kind in bits 7..0 and flags above, words 1 to 3 the event's numbers.
+ghost use mathlib.Core.Path.{_≡_};
+ghost use mathlib.Core.Bool.{_&&_};
+ghost use Prim.Native.Nat.{_^_};
+ghost use lib.Dec.{eqb, ltb};
+ghost use Rattle.bits.specs.Choice.{if_then_else_};
+ghost use Rattle.bits.specs.Words.{bitAt, fieldAt};
+ghost use Rattle.trace.specs.Rows.{modeOf, operationOf, withMode, retiredRow, trapRow, returnRow, accessRow, zerosRow, sctrclrRow, hostRow, rowBy, rowOf};
+use crate::Row;
+use access::Operation;
+use machine::Mode;
+use recorder::Event;
+
+fn below(x: u64, limit: u64) -> bool
+    ensures { λ b. ⌜ b ≡ ltb x limit ⌝ }
+{
+    x < limit
+}
+
+// The mode of a code.
+fn mode_of(code: u64) -> Mode
+    ensures { λ m. ⌜ m ≡ modeOf code ⌝ }
+{
+    match code {
+        0 => Mode::U,
+        1 => Mode::S,
+        2 => Mode::M,
+        3 => Mode::VU,
+        _ => Mode::VS,
+    }
+}
+
+// The operation of a code.
+fn operation_of(code: u64) -> Operation
+    ensures { λ o. ⌜ o ≡ operationOf code ⌝ }
+{
+    match code {
+        0 => Operation::Read,
+        1 => Operation::Write,
+        2 => Operation::Set,
+        _ => Operation::Clear,
+    }
+}
+
+fn mode_code(w: u64) -> u64
+    ensures { λ n. ⌜ n ≡ fieldAt w 8 3 ⌝ }
+{
+    bits::field64(w, 8, 3)
+}
+
+fn is_mode_code(w: u64) -> bool
+    ensures { λ b. ⌜ b ≡ ltb (fieldAt w 8 3) 5 ⌝ }
+{
+    below(mode_code(w), 5)
+}
+
+// Whether word 0 has a mode, and no bit set from a limit up.
+fn has_mode(w: u64, limit: u64) -> bool
+    ensures { λ b. ⌜ b ≡ withMode w limit ⌝ }
+{
+    if below(w, limit) {
+        is_mode_code(w)
+    } else {
+        false
+    }
+}
+
+fn mode_in(w: u64) -> Mode
+    ensures { λ m. ⌜ m ≡ modeOf (fieldAt w 8 3) ⌝ }
+{
+    mode_of(mode_code(w))
+}
+
+fn operation_in(w: u64) -> Operation
+    ensures { λ o. ⌜ o ≡ operationOf (fieldAt w 8 2) ⌝ }
+{
+    operation_of(bits::field64(w, 8, 2))
+}
+
+// A retired word; taken in bit 8 of word 0.
+fn retired_word(taken: bool, word: u64, pc: u64, target: u64) -> Row
+    ensures { λ r. ⌜ r ≡ (if ltb word (2 ^ 32) then Row.WellFormed (Event.Retired word pc target taken) else Row.Malformed 1) ⌝ }
+{
+    if word < 0x1_0000_0000 {
+        let e = Event::Retired {
+            word: word as u32,
+            pc,
+            target,
+            taken,
+        };
+        Row::WellFormed(e)
+    } else {
+        Row::Malformed(1)
+    }
+}
+
+fn retired_taken(w: u64, word: u64, pc: u64, target: u64) -> Row
+    ensures { λ r. ⌜ r ≡ (if ltb word (2 ^ 32) then Row.WellFormed (Event.Retired word pc target (eqb (bitAt w 8) 1)) else Row.Malformed 1) ⌝ }
+{
+    retired_word(bits::bit(w, 8), word, pc, target)
+}
+
+fn retired_row(w: u64, word: u64, pc: u64, target: u64) -> Row
+    ensures { λ r. ⌜ r ≡ retiredRow w word pc target ⌝ }
+{
+    if below(w, 0x200) {
+        retired_taken(w, word, pc, target)
+    } else {
+        Row::Malformed(0)
+    }
+}
+
+// A trap; target mode in bits 10..8 and interrupt in bit 11.
+fn trap_event(w: u64, cause: u64, epc: u64, handler: u64) -> Row
+    ensures { λ r. ⌜ r ≡ Row.WellFormed (Event.Trap (modeOf (fieldAt w 8 3)) (eqb (bitAt w 11) 1) cause epc handler) ⌝ }
+{
+    let e = Event::Trap {
+        to: mode_in(w),
+        interrupt: bits::bit(w, 11),
+        cause,
+        epc,
+        handler,
+    };
+    Row::WellFormed(e)
+}
+
+fn trap_row(w: u64, cause: u64, epc: u64, handler: u64) -> Row
+    ensures { λ r. ⌜ r ≡ trapRow w cause epc handler ⌝ }
+{
+    if has_mode(w, 0x1000) {
+        trap_event(w, cause, epc, handler)
+    } else {
+        Row::Malformed(0)
+    }
+}
+
+// A trap return; target mode in bits 10..8.
+fn return_event(w: u64, pc: u64, target: u64) -> Row
+    ensures { λ r. ⌜ r ≡ Row.WellFormed (Event.TrapReturn (modeOf (fieldAt w 8 3)) pc target) ⌝ }
+{
+    let e = Event::TrapReturn {
+        to: mode_in(w),
+        pc,
+        target,
+    };
+    Row::WellFormed(e)
+}
+
+fn return_row(w: u64, zero: u64, pc: u64, target: u64) -> Row
+    ensures { λ r. ⌜ r ≡ returnRow w zero pc target ⌝ }
+{
+    if has_mode(w, 0x800) {
+        if zero == 0 {
+            return_event(w, pc, target)
+        } else {
+            Row::Malformed(1)
+        }
+    } else {
+        Row::Malformed(0)
+    }
+}
+
+// A register access; operation in bits 9..8.
+fn access_event(w: u64, number: u64, operand: u64) -> Row
+    ensures { λ r. ⌜ r ≡ Row.WellFormed (Event.Access (operationOf (fieldAt w 8 2)) number operand) ⌝ }
+{
+    let e = Event::Access {
+        operation: operation_in(w),
+        number,
+        operand,
+    };
+    Row::WellFormed(e)
+}
+
+fn access_row(w: u64, number: u64, operand: u64, zero: u64) -> Row
+    ensures { λ r. ⌜ r ≡ accessRow w number operand zero ⌝ }
+{
+    if below(w, 0x400) {
+        if below(number, 0x1000) {
+            if zero == 0 {
+                access_event(w, number, operand)
+            } else {
+                Row::Malformed(3)
+            }
+        } else {
+            Row::Malformed(1)
+        }
+    } else {
+        Row::Malformed(0)
+    }
+}
+
+// An event whose words 1 to 3 are zeros.
+fn zeros_row(a: u64, b: u64, c: u64, e: Event) -> Row
+    ensures { λ r. ⌜ r ≡ zerosRow a b c e ⌝ }
+{
+    if a == 0 {
+        if b == 0 {
+            if c == 0 {
+                Row::WellFormed(e)
+            } else {
+                Row::Malformed(3)
+            }
+        } else {
+            Row::Malformed(2)
+        }
+    } else {
+        Row::Malformed(1)
+    }
+}
+
+fn sctrclr_event(a: u64, b: u64, c: u64) -> Row
+    ensures { λ r. ⌜ r ≡ zerosRow a b c Event.Sctrclr ⌝ }
+{
+    zeros_row(a, b, c, Event::Sctrclr)
+}
+
+fn sctrclr_row(w: u64, a: u64, b: u64, c: u64) -> Row
+    ensures { λ r. ⌜ r ≡ sctrclrRow w a b c ⌝ }
+{
+    if below(w, 0x100) {
+        sctrclr_event(a, b, c)
+    } else {
+        Row::Malformed(0)
+    }
+}
+
+// The host's event; mstateen0.CTR in bit 8 and hstateen0.CTR in bit 9.
+fn host_event(w: u64, a: u64, b: u64, c: u64) -> Row
+    ensures { λ r. ⌜ r ≡ zerosRow a b c (Event.Host (eqb (bitAt w 8) 1) (eqb (bitAt w 9) 1)) ⌝ }
+{
+    let e = Event::Host {
+        mstateen0: bits::bit(w, 8),
+        hstateen0: bits::bit(w, 9),
+    };
+    zeros_row(a, b, c, e)
+}
+
+fn host_row(w: u64, a: u64, b: u64, c: u64) -> Row
+    ensures { λ r. ⌜ r ≡ hostRow w a b c ⌝ }
+{
+    if below(w, 0x400) {
+        host_event(w, a, b, c)
+    } else {
+        Row::Malformed(0)
+    }
+}
+
+fn row_by(kind: u64, w: u64, a: u64, b: u64, c: u64) -> Row
+    ensures { λ r. ⌜ r ≡ rowBy kind w a b c ⌝ }
+{
+    match kind {
+        0 => retired_row(w, a, b, c),
+        1 => trap_row(w, a, b, c),
+        2 => return_row(w, a, b, c),
+        3 => access_row(w, a, b, c),
+        4 => sctrclr_row(w, a, b, c),
+        5 => host_row(w, a, b, c),
+        _ => Row::Malformed(0),
+    }
+}
+
+// The row of four words.
+pub fn decode(w: u64, a: u64, b: u64, c: u64) -> Row
+    ensures { λ r. ⌜ r ≡ rowOf w a b c ⌝ }
+{
+    row_by(bits::low(w, 8), w, a, b, c)
+}

@@ -1,0 +1,260 @@
+//! The program `replay`: what it prints for its arguments. Each trace is run from reset.
+
+mod command;
+mod report;
+mod rows;
+
+use std::io::{self, Read};
+
+use self::command::{command, Command, Options, USAGE};
+pub use self::report::Run;
+pub use self::rows::{bytes_of, decode, encode, row_of, BrokenWord, Row, ROW_BYTES};
+
+/// What goes to standard output and to standard error.
+#[derive(Debug, Default, PartialEq, Eq)]
+pub struct Printed {
+    pub stdout: String,
+    pub stderr: String,
+}
+
+/// What is printed for these arguments, where `open` opens the traces.
+pub fn replay<R: Read>(arguments: &[String], open: impl Fn(&str) -> io::Result<R>) -> Printed {
+    let mut printed = Printed::default();
+    match command(arguments) {
+        Ok(Command::ShowUsage) => printed.stdout += USAGE,
+        Ok(Command::Replay(options, traces)) => {
+            for name in traces {
+                let has_title = traces.len() > 1;
+                match open(name) {
+                    Ok(file) => printed.add_trace(name, has_title, options, file),
+                    Err(error) => printed.complain(&of_trace(name, &system_words(&error))),
+                }
+            }
+        }
+        Err(message) => printed.complain(&message),
+    }
+    printed
+}
+
+impl Printed {
+    fn complain(&mut self, message: &str) {
+        self.stderr += &format!("replay: {message}\n");
+    }
+
+    fn add_trace(&mut self, name: &str, has_title: bool, options: Options, mut file: impl Read) {
+        if has_title {
+            self.stdout += &format!("trace {name}\n");
+        }
+        // If reading fails, what was read before that is there all the same.
+        let mut bytes = vec![];
+        let reading = file.read_to_end(&mut bytes);
+        let (rows, rest) = bytes.as_chunks();
+        let outcome = self
+            .add_run(rows, options)
+            .and_then(|()| reading.map_err(|error| system_words(&error)))
+            .and_then(|_| left_over(rows.len(), rest.len()));
+        if let Err(message) = outcome {
+            self.complain(&of_trace(name, &message));
+        }
+    }
+
+    /// Runs the rows before the first malformed one.
+    fn add_run(&mut self, rows: &[[u8; ROW_BYTES]], options: Options) -> Result<(), String> {
+        let mut run = Run::from_reset();
+        let outcome = rows.iter().enumerate().try_for_each(|(index, bytes)| {
+            let event = decode(row_of(bytes)).map_err(|word| malformed(index, word))?;
+            let answer = run.step(event);
+            if options.answers {
+                self.stdout += &format!("{} {:#x}\n", answer.number, answer.value);
+            }
+            Ok(())
+        });
+        self.stdout += &run.report(options.state);
+        outcome
+    }
+}
+
+fn of_trace(name: &str, message: &str) -> String {
+    format!("{name}: {message}")
+}
+
+fn malformed(index: usize, word: BrokenWord) -> String {
+    format!("row {index}: word {word} breaks a rule")
+}
+
+/// Complains of bytes at the end that are no whole row.
+fn left_over(rows: usize, bytes: usize) -> Result<(), String> {
+    let unit = if bytes == 1 { "byte" } else { "bytes" };
+    match (bytes, rows.checked_sub(1)) {
+        (0, _) => Ok(()),
+        (_, None) => Err(format!("{bytes} {unit} and no row")),
+        (_, Some(last)) => Err(format!("{bytes} {unit} left over after row {last}")),
+    }
+}
+
+/// The system's words, without the number that Rust puts behind them.
+fn system_words(error: &io::Error) -> String {
+    let text = error.to_string();
+    match text.split_once(" (os error ") {
+        Some((words, _)) => words.to_string(),
+        None => text,
+    }
+}
+
+#[cfg(test)]
+mod tests {
+    use super::*;
+    use std::io::{Cursor, ErrorKind};
+
+    const SCTRCLR: Row = [4, 0, 0, 0];
+    const TURN_M_ON: Row = [0x103, 0x34E, 4, 0];
+    const CALL: Row = [0, 0xef, 0x1000, 0x2000];
+    const MALFORMED: Row = [3, 4096, 0, 0];
+
+    const EISDIR: i32 = 21;
+
+    /// A directory can be opened but not read.
+    struct Directory;
+
+    impl Read for Directory {
+        fn read(&mut self, _: &mut [u8]) -> io::Result<usize> {
+            Err(io::Error::from_raw_os_error(EISDIR))
+        }
+    }
+
+    fn open(name: &str) -> io::Result<Box<dyn Read>> {
+        let call = bytes_of([TURN_M_ON, CALL]);
+        let bytes = match name {
+            "call" => call,
+            "empty" => vec![],
+            "damaged" => [call, bytes_of([MALFORMED, CALL]), vec![0; 5]].concat(),
+            "malformed" => bytes_of([MALFORMED]),
+            "cut" => [call, vec![0; 31]].concat(),
+            "byte" => vec![0],
+            "failing" => return Ok(Box::new(Cursor::new(call).chain(Directory))),
+            "directory" => return Ok(Box::new(Directory)),
+            _ => return Err(ErrorKind::NotFound.into()),
+        };
+        Ok(Box::new(Cursor::new(bytes)))
+    }
+
+    fn printed(arguments: &str) -> Printed {
+        let arguments: Vec<String> = arguments.split_whitespace().map(String::from).collect();
+        replay(&arguments, open)
+    }
+
+    fn report_of(rows: &[Row]) -> String {
+        let mut run = Run::from_reset();
+        for row in rows {
+            run.step(decode(*row).expect("a well-formed row"));
+        }
+        run.report(false)
+    }
+
+    #[track_caller]
+    fn assert_prints(arguments: &str, stdout: &str, stderr: &str) {
+        let expected = Printed {
+            stdout: stdout.to_string(),
+            stderr: stderr.to_string(),
+        };
+        assert_eq!(printed(arguments), expected);
+    }
+
+    #[test]
+    fn a_trace_is_reported() {
+        let expected = "\
+events 2
+answered: 2
+recorded: 1
+mode M
+mctrctl 0x4
+vsctrctl 0x0
+sctrdepth 0x0
+sctrstatus 0x1
+siselect 0x0
+vsiselect 0x0
+mstateen0.CTR 0x0
+hstateen0.CTR 0x0
+0 0x1000 -> 0x2000 direct call
+";
+        assert_prints("call", expected, "");
+    }
+
+    #[test]
+    fn answers_come_first() {
+        let report = report_of(&[TURN_M_ON, CALL]);
+        assert_prints("--answers call", &format!("0 0x0\n0 0x1\n{report}"), "");
+    }
+
+    #[test]
+    fn state_comes_last() {
+        let stdout = printed("--state call").stdout;
+        let report = report_of(&[TURN_M_ON, CALL]);
+        assert!(stdout.starts_with(&format!("{report}0 0x1001 0x2000 0x9\n1 0x0 0x0 0x0\n")));
+        assert!(stdout.ends_with("\n127 0x0 0x0 0x0\n"));
+    }
+
+    #[test]
+    fn usage_goes_to_standard_output() {
+        assert_prints("", USAGE, "");
+        assert_prints("--help", USAGE, "");
+        assert!(USAGE.starts_with("usage: replay [--answers] [--state] TRACE...\nReplays"));
+        assert!(USAGE.ends_with("four to an event.\n"));
+    }
+
+    #[test]
+    fn wrong_flags_run_nothing() {
+        assert_prints("--x call", "", "replay: unknown flag --x\n");
+        assert_prints("--state", "", "replay: no trace given\n");
+    }
+
+    #[test]
+    fn each_of_several_traces_has_a_title_and_starts_from_reset() {
+        let (call, empty) = (report_of(&[TURN_M_ON, CALL]), report_of(&[]));
+        let expected = format!("trace call\n{call}trace empty\n{empty}trace call\n{call}");
+        assert_prints("call empty call", &expected, "");
+    }
+
+    #[test]
+    fn a_trace_that_cannot_be_opened_is_passed_over() {
+        let call = report_of(&[TURN_M_ON, CALL]);
+        let expected = format!("trace call\n{call}trace call\n{call}");
+        assert_prints(
+            "call none call --state",
+            &expected,
+            "replay: none: entity not found\nreplay: --state: entity not found\n",
+        );
+        assert_prints("none", "", "replay: none: entity not found\n");
+    }
+
+    #[test]
+    fn a_malformed_row_ends_the_trace() {
+        let report = report_of(&[TURN_M_ON, CALL]);
+        let complaint = "replay: damaged: row 2: word 1 breaks a rule\n";
+        assert_prints("damaged", &report, complaint);
+        let complaint = "replay: malformed: row 0: word 1 breaks a rule\n";
+        assert_prints("malformed", &report_of(&[]), complaint);
+    }
+
+    #[test]
+    fn bytes_left_over_are_counted() {
+        let report = report_of(&[TURN_M_ON, CALL]);
+        let complaint = "replay: cut: 31 bytes left over after row 1\n";
+        assert_prints("cut", &report, complaint);
+        let complaint = "replay: byte: 1 byte and no row\n";
+        assert_prints("byte", &report_of(&[]), complaint);
+    }
+
+    #[test]
+    fn what_was_read_before_a_failure_is_reported() {
+        let report = report_of(&[TURN_M_ON, CALL]);
+        assert_prints("failing", &report, "replay: failing: Is a directory\n");
+        let complaint = "replay: directory: Is a directory\n";
+        assert_prints("directory", &report_of(&[]), complaint);
+    }
+
+    #[test]
+    fn answers_to_other_events_are_no_values() {
+        assert!(report_of(&[SCTRCLR]).starts_with("events 1\nanswered: 1\nmode M\n"));
+    }
+}

@@ -1,0 +1,117 @@
+//! The arguments of `replay`.
+
+pub(super) const USAGE: &str = "\
+usage: replay [--answers] [--state] TRACE...
+Replays traces of events through the recorder, each from reset, and prints what it recorded.
+  --answers  first the answer to each event: its number, and its value in hex
+  --state    last all physical entries: index, ctrsource, ctrtarget and ctrdata
+A trace is a file of little-endian 64-bit words, four to an event.
+";
+
+#[derive(Clone, Copy, Debug, Default, PartialEq, Eq)]
+pub(super) struct Options {
+    pub(super) answers: bool,
+    pub(super) state: bool,
+}
+
+#[derive(Debug, PartialEq, Eq)]
+pub(super) enum Command<'a> {
+    ShowUsage,
+    Replay(Options, &'a [String]),
+}
+
+/// What the arguments ask for, or what is wrong with them. Flags end where the first trace is.
+pub(super) fn command(arguments: &[String]) -> Result<Command<'_>, String> {
+    let is_trace = |argument: &String| !argument.starts_with('-');
+    let flag_count = arguments.iter().position(is_trace);
+    let (flags, traces) = arguments.split_at(flag_count.unwrap_or(arguments.len()));
+    let mut options = Options::default();
+    for flag in flags {
+        match flag.as_str() {
+            "--answers" => options.answers = true,
+            "--state" => options.state = true,
+            "--help" => return Ok(Command::ShowUsage),
+            _ => return Err(format!("unknown flag {flag}")),
+        }
+    }
+    match (flags, traces) {
+        ([], []) => Ok(Command::ShowUsage),
+        (_, []) => Err("no trace given".to_string()),
+        _ => Ok(Command::Replay(options, traces)),
+    }
+}
+
+#[cfg(test)]
+mod tests {
+    use super::*;
+
+    const BOTH: Options = Options {
+        answers: true,
+        state: true,
+    };
+
+    fn words(text: &str) -> Vec<String> {
+        text.split_whitespace().map(String::from).collect()
+    }
+
+    #[track_caller]
+    fn assert_replays(arguments: &str, options: Options, traces: &str) {
+        let (arguments, traces) = (words(arguments), words(traces));
+        let expected = Command::Replay(options, &traces);
+        assert_eq!(command(&arguments), Ok(expected));
+    }
+
+    #[track_caller]
+    fn assert_refuses(arguments: &str, message: &str) {
+        assert_eq!(command(&words(arguments)), Err(message.to_string()));
+    }
+
+    #[test]
+    fn usage_is_shown_without_arguments_and_on_request() {
+        for arguments in ["", "--help"] {
+            assert_eq!(command(&words(arguments)), Ok(Command::ShowUsage));
+        }
+    }
+
+    #[test]
+    fn flags_stand_in_any_order_and_any_number() {
+        let answers = Options {
+            answers: true,
+            state: false,
+        };
+        let state = Options {
+            answers: false,
+            state: true,
+        };
+        assert_replays("a b", Options::default(), "a b");
+        assert_replays("--answers a", answers, "a");
+        assert_replays("--state --state a", state, "a");
+        assert_replays("--answers --state a", BOTH, "a");
+        assert_replays("--state --answers --state a", BOTH, "a");
+    }
+
+    #[test]
+    fn after_a_trace_all_arguments_are_traces() {
+        assert_replays(
+            "a --state --x --help",
+            Options::default(),
+            "a --state --x --help",
+        );
+        assert_replays("--state --answers a - b", BOTH, "a - b");
+    }
+
+    #[test]
+    fn the_first_unknown_flag_is_named() {
+        assert_refuses("--x", "unknown flag --x");
+        assert_refuses("--answers -a --y b", "unknown flag -a");
+        assert_refuses("- a", "unknown flag -");
+        assert_refuses("--answer a", "unknown flag --answer");
+        assert_refuses("--statement", "unknown flag --statement");
+    }
+
+    #[test]
+    fn flags_want_a_trace() {
+        assert_refuses("--answers", "no trace given");
+        assert_refuses("--answers --state", "no trace given");
+    }
+}

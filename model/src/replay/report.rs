@@ -1,0 +1,314 @@
+//! What is printed of a trace after its answers.
+
+use crate::access::{Answer, GRANTED};
+use crate::recorder::{Event, Machine};
+use crate::registers::{Entry, Register, Registers};
+
+/// What the numbers of answers mean.
+const NUMBERS: [&str; 6] = [
+    "answered",
+    "illegal instruction",
+    "virtual instruction",
+    "no such register",
+    "mode change not possible",
+    "bad state",
+];
+
+/// What the values of retired words, traps and trap returns mean.
+const VALUES: [&str; 5] = [
+    "nothing",
+    "recorded",
+    "return popped",
+    "swapped in place",
+    "frozen by this trap",
+];
+
+const TYPES: [&str; 16] = [
+    "none",
+    "exception",
+    "interrupt",
+    "trap return",
+    "branch not taken",
+    "branch taken",
+    "reserved",
+    "reserved",
+    "indirect call",
+    "direct call",
+    "indirect jump",
+    "direct jump",
+    "co-routine swap",
+    "function return",
+    "other indirect jump",
+    "other direct jump",
+];
+
+/// Bit 0 of ctrsource; that of ctrtarget is not shown either.
+const V: u64 = 1;
+
+/// The TYPE field of ctrdata.
+const TYPE: u64 = 0xF;
+
+/// The recorder after some events from reset, and how often each answer was given.
+#[derive(Debug)]
+pub struct Run {
+    machine: Machine,
+    events: u64,
+    numbers: [u64; NUMBERS.len()],
+    values: [u64; VALUES.len()],
+}
+
+impl Run {
+    pub fn from_reset() -> Run {
+        Run {
+            machine: Machine::reset(),
+            events: 0,
+            numbers: [0; NUMBERS.len()],
+            values: [0; VALUES.len()],
+        }
+    }
+
+    #[inline]
+    pub fn step(&mut self, event: Event) -> Answer {
+        let answer = self.machine.step(event);
+        self.events += 1;
+        self.numbers[usize::from(answer.number)] += 1;
+        if answer.number == GRANTED && event.is_transfer() {
+            self.values[answer.value as usize] += 1;
+        }
+        answer
+    }
+
+    /// The lines below the answers; with `all_entries` also those of physical entries.
+    pub fn report(&self, all_entries: bool) -> String {
+        let mut text = format!("events {}\n", self.events);
+        text += &counts(&NUMBERS, &self.numbers);
+        text += &counts(&VALUES, &self.values);
+        text += &registers(&self.machine.registers);
+        text += &valid_entries(&self.machine);
+        if all_entries {
+            text += &physical_entries(&self.machine.entries);
+        }
+        text
+    }
+}
+
+/// The words of what occurred, each with how often it did.
+fn counts(words: &[&str], counts: &[u64]) -> String {
+    words
+        .iter()
+        .zip(counts)
+        .filter(|(_, count)| **count > 0)
+        .map(|(words, count)| format!("{words}: {count}\n"))
+        .collect()
+}
+
+fn registers(registers: &Registers) -> String {
+    let status = registers.reading(&Entry::default(), Register::Sctrstatus);
+    let readings = [
+        ("mctrctl", registers.mctrctl),
+        ("vsctrctl", registers.vsctrctl),
+        ("sctrdepth", registers.depth_code),
+        ("sctrstatus", status),
+        ("siselect", registers.siselect),
+        ("vsiselect", registers.vsiselect),
+        ("mstateen0.CTR", registers.mstateen0_ctr.into()),
+        ("hstateen0.CTR", registers.hstateen0_ctr.into()),
+    ];
+    let lines = readings.map(|(name, reading)| format!("{name} {reading:#x}\n"));
+    format!("mode {:?}\n", registers.mode) + &lines.concat()
+}
+
+/// The valid ones of the entries in use, in logical order.
+fn valid_entries(machine: &Machine) -> String {
+    let registers = &machine.registers;
+    (0..registers.depth())
+        .map(|index| {
+            (
+                index,
+                machine.entries[registers.physical_entry(index) as usize],
+            )
+        })
+        .filter(|(_, entry)| entry.ctrsource & V == V)
+        .map(|(index, entry)| transfer(index, entry))
+        .collect()
+}
+
+fn transfer(index: u64, entry: Entry) -> String {
+    let (source, target) = (entry.ctrsource & !V, entry.ctrtarget & !1);
+    let name = TYPES[(entry.ctrdata & TYPE) as usize];
+    format!("{index} {source:#x} -> {target:#x} {name}\n")
+}
+
+fn physical_entries(entries: &[Entry]) -> String {
+    entries
+        .iter()
+        .enumerate()
+        .map(|(index, entry)| {
+            let [source, target, data] = entry.words();
+            format!("{index} {source:#x} {target:#x} {data:#x}\n")
+        })
+        .collect()
+}
+
+#[cfg(test)]
+mod tests {
+    use super::*;
+    use crate::access::{Access, Operation};
+    use crate::recorder::{Retired, Trap};
+    use crate::registers::Mode;
+
+    const CALL: Event = Event::Retired(Retired {
+        word: 0x0000_00ef,
+        pc: 0x1000,
+        target: 0x2000,
+        taken: false,
+    });
+
+    fn write(csr: u64, operand: u64) -> Event {
+        Event::Access(Access {
+            operation: Operation::Write,
+            csr,
+            operand,
+        })
+    }
+
+    fn trap_to(target_mode: Mode) -> Event {
+        Event::Trap(Trap {
+            target_mode,
+            is_interrupt: false,
+            cause: 9,
+            epc: 0,
+            handler: 0,
+        })
+    }
+
+    fn report_of(events: &[Event]) -> String {
+        let mut run = Run::from_reset();
+        for event in events {
+            run.step(*event);
+        }
+        run.report(false)
+    }
+
+    const RESET: &str = "\
+mode M
+mctrctl 0x0
+vsctrctl 0x0
+sctrdepth 0x0
+sctrstatus 0x0
+siselect 0x0
+vsiselect 0x0
+mstateen0.CTR 0x0
+hstateen0.CTR 0x0
+";
+
+    #[test]
+    fn without_events_there_is_the_reset() {
+        assert_eq!(report_of(&[]), format!("events 0\n{RESET}"));
+    }
+
+    #[test]
+    fn numbers_and_values_that_occurred_are_counted() {
+        let events = [CALL, write(0x999, 0), trap_to(Mode::S), CALL];
+        let counts = "answered: 2\nno such register: 1\nmode change not possible: 1\nnothing: 2\n";
+        assert_eq!(report_of(&events), format!("events 4\n{counts}{RESET}"));
+    }
+
+    /// The write answers the old reading 4, and refusals the value 0.
+    #[test]
+    fn only_values_of_answered_transfers_are_counted() {
+        let events = [write(0x34E, 4), write(0x34E, 0), trap_to(Mode::U)];
+        let counts = "answered: 2\nmode change not possible: 1\n";
+        assert_eq!(report_of(&events), format!("events 3\n{counts}{RESET}"));
+    }
+
+    #[test]
+    fn counts_come_in_ascending_order() {
+        assert_eq!(
+            counts(&NUMBERS, &[6, 5, 4, 3, 2, 1]),
+            "answered: 6\nillegal instruction: 5\nvirtual instruction: 4\nno such register: 3\n\
+             mode change not possible: 2\nbad state: 1\n"
+        );
+        assert_eq!(
+            counts(&VALUES, &[5, 4, 3, 2, 1]),
+            "nothing: 5\nrecorded: 4\nreturn popped: 3\nswapped in place: 2\n\
+             frozen by this trap: 1\n"
+        );
+        assert_eq!(counts(&VALUES, &[0, 7, 0, 0, 0]), "recorded: 7\n");
+    }
+
+    #[test]
+    fn registers_are_shown_in_hex() {
+        let text = registers(&Registers {
+            mode: Mode::VS,
+            mctrctl: 0xFF3E_0000_1B87,
+            vsctrctl: 0x83,
+            depth_code: 3,
+            wrptr: 0x7F,
+            frozen: true,
+            siselect: 0x2AB,
+            vsiselect: u64::MAX,
+            mstateen0_ctr: true,
+            hstateen0_ctr: true,
+        });
+        let expected = "\
+mode VS
+mctrctl 0xff3e00001b87
+vsctrctl 0x83
+sctrdepth 0x3
+sctrstatus 0x8000007f
+siselect 0x2ab
+vsiselect 0xffffffffffffffff
+mstateen0.CTR 0x1
+hstateen0.CTR 0x1
+";
+        assert_eq!(text, expected);
+    }
+
+    /// WRPTR is 2 at depth 16, so logical entries 0 and 15 are physical entries 1 and 2. Entry 16
+    /// is not in use, and entry 3 not valid.
+    fn machine_with_entries() -> Machine {
+        let mut machine = Machine::reset();
+        machine.registers.wrptr = 2;
+        for (index, ctrsource, ctrtarget, ctrdata) in [
+            (1, 0x1001, 0x2003, 0xFFF8),
+            (2, 0x1, 0x0, 0x6),
+            (3, 0x3000, 0x4000, 0x9),
+            (16, 0x5001, 0x6000, 0x1),
+        ] {
+            machine.entries[index] = Entry {
+                ctrsource,
+                ctrtarget,
+                ctrdata,
+            };
+        }
+        machine
+    }
+
+    #[test]
+    fn valid_entries_are_shown_in_logical_order() {
+        assert_eq!(
+            valid_entries(&machine_with_entries()),
+            "0 0x1000 -> 0x2002 indirect call\n15 0x0 -> 0x0 reserved\n"
+        );
+    }
+
+    #[test]
+    fn physical_entries_are_shown_whole() {
+        let text = physical_entries(&machine_with_entries().entries);
+        let lines: Vec<&str> = text.lines().collect();
+        assert_eq!(lines.len(), 128);
+        assert_eq!(lines[0], "0 0x0 0x0 0x0");
+        assert_eq!(lines[1], "1 0x1001 0x2003 0xfff8");
+        assert_eq!(lines[3], "3 0x3000 0x4000 0x9");
+        assert_eq!(lines[16], "16 0x5001 0x6000 0x1");
+        assert_eq!(lines[127], "127 0x0 0x0 0x0");
+    }
+
+    #[test]
+    fn all_entries_come_last_if_wanted() {
+        let run = Run::from_reset();
+        let expected = run.report(false) + &physical_entries(&run.machine.entries);
+        assert_eq!(run.report(true), expected);
+    }
+}
