@@ -7,19 +7,21 @@ STATICLIB = target/staticlib/libclassifier.a
 # what a command prints is shown only if it fails
 quietly = mkdir -p target && { $(1) >target/make.log 2>&1 || { cat target/make.log; exit 1; }; }
 
-.PHONY: help demo test examples bench every-word expected archive
+.PHONY: help demo test check-cli examples bench every-word expected archive program
 
 help: ## list the targets
 	@sed -n 's/^\([a-z-]*\):.*## /\1\t/p' Makefile | expand -t 12
 
-demo: ## show the transfer types of a few words (proves first: about a minute)
-	@echo "Proving and building classify (about a minute, nothing if it is built already) ..."
-	@$(call quietly,rt check classify)
-	@sh examples/demo.sh target/bin/classify
+demo: program ## replay a sample trace and print its branch history (proves first: about four minutes)
+	@mkdir -p target/demo
+	@sh examples/demo.sh target/bin/replay target/demo
 
 test: ## prove everything and run every test: the gate
 	@cd model && $(CARGO) test --release --offline
 	@rt ci
+
+check-cli: program ## hold replay's arguments, output and complaints to the model's
+	@cd model && $(CARGO) test --release --offline --quiet --test check_cli -- --ignored
 
 examples: archive ## build and run the C and the Rust program of examples/
 	@mkdir -p target/examples
@@ -28,14 +30,20 @@ examples: archive ## build and run the C and the Rust program of examples/
 	@echo "C:" && target/examples/classify_c
 	@echo "Rust:" && target/examples/classify_rs
 
-bench: archive ## time the proved code beside the model's
-	@cd bench && $(CARGO) run --release --offline --quiet
+bench: archive program ## time the classifier and replay beside Rust programs
+	@cd bench && $(CARGO) build --release --offline --quiet
+	@cd bench && target/release/bench
+	@cd bench && target/release/replay
 
 every-word: archive ## compare with the model on all 2^32 words (about a minute)
 	@cd bench && $(CARGO) run --release --offline --quiet --bin every_word
 
 expected: ## write the programs' expected output anew, from the model
 	@cd model && $(CARGO) run --release --offline --quiet --bin expected -- --write
+
+program:
+	@echo "Proving and building replay (about four minutes, nothing if it is built already) ..."
+	@$(call quietly,rt check replay)
 
 archive:
 	@$(call quietly,rt staticlib classifier)

@@ -1,30 +1,20 @@
 #!/bin/sh
-# Prints the transfer type of a few named words: what `classify` says of each, beside its assembly.
+# demo.sh REPLAY FOLDER: replays the sample user program under three settings of the control registers, by the program REPLAY,
+# with the traces put together in FOLDER.
 set -eu
-classify=$1
+replay=$1
+folder=$2
+traces=$(dirname "$0")/traces
 
-# word NUMBER ASSEMBLY: feeds the word's four bytes, the lowest first
-word() {
-    bytes=
-    for shift in 0 8 16 24; do
-        bytes="$bytes\\$(printf %o $(($1 >> shift & 255)))"
-    done
-    printf '%-18s ' "$2"
-    printf "$bytes" | "$classify"
+# show SETUP ROWS TITLE: the first ROWS rows of the sample behind a setup
+show() {
+    rows=$folder/$1.rows
+    { cat "$traces/$1.setup"; head -c $((32 * $2)) "$traces/user.rows"; } >"$rows"
+    printf '\n== %s\n' "$3"
+    "$replay" "$rows"
 }
 
-word 0x000000ef 'jal   x1, 0'
-word 0x00008067 'jalr  x0, 0(x1)'
-word 0x000280e7 'jalr  x1, 0(x5)'
-word 0x000080e7 'jalr  x1, 0(x1)'
-word 0x00030067 'jalr  x0, 0(x6)'
-word 0x00038367 'jalr  x6, 0(x7)'
-word 0x0000006f 'jal   x0, 0'
-word 0x0000036f 'jal   x6, 0'
-word 0x00000063 'beq   x0, x0, 0'
-word 0x9082 'c.jalr x1'
-word 0x9282 'c.jalr x5'
-word 0x8082 'c.jr   x1'
-word 0x9002 'c.ebreak'
-word 0x30200073 'mret'
-word 0x00000013 'nop'
+# 1,390 rows end soon after a page fault in the user program
+show history 1390 'U is on, M and S are off: the history of the user program, and no address of the others'
+show external 1390 'STE and MTE as well: the traps out of the user program, each with target 0x0'
+show call-stack 1390 'RASEMU: the open calls of the user program at the end'

@@ -17,14 +17,14 @@ const MCTRCTL: u64 = 0x34E;
 /// Register numbers, and what M writes there.
 type Setup = &'static [(u64, u64)];
 
-/// 32 entries; U on.
-const HISTORY: Setup = &[(SCTRDEPTH, 1), (MCTRCTL, 0x1)];
+/// 16 entries; U on.
+const HISTORY: Setup = &[(SCTRDEPTH, 0), (MCTRCTL, 0x1)];
 
-/// 32 entries; U on, STE and MTE.
-const EXTERNAL: Setup = &[(SCTRDEPTH, 1), (MCTRCTL, 0x301)];
+/// 16 entries; U on, STE and MTE.
+const EXTERNAL: Setup = &[(SCTRDEPTH, 0), (MCTRCTL, 0x301)];
 
-/// 32 entries; U on, RASEMU.
-const CALL_STACK: Setup = &[(SCTRDEPTH, 1), (MCTRCTL, 0x81)];
+/// 16 entries; U on, RASEMU.
+const CALL_STACK: Setup = &[(SCTRDEPTH, 0), (MCTRCTL, 0x81)];
 
 /// 128 entries; all five modes on.
 const ALL_MODES: Setup = &[(SCTRDEPTH, 3), (MCTRCTL, 0x7), (VSCTRCTL, 0x3)];
