@@ -229,7 +229,7 @@ fn emulated_return() {
     );
 }
 
-pub fn report() {
+pub(crate) fn report() {
     io::write_all(STDOUT_FILENO, b"bench lines\n");
     enables();
     selections();

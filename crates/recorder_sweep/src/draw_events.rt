@@ -6,9 +6,9 @@ use sweep_support::codes::operation_of;
 use test_support::xorshift64;
 
 // An event, and the last word drawn for it.
-pub struct Drawn {
-    pub event: Event,
-    pub random: u64,
+pub(crate) struct Drawn {
+    pub(crate) event: Event,
+    pub(crate) random: u64,
 }
 
 // Each type, by 32-bit and compressed words, and words that are none.
@@ -90,7 +90,7 @@ fn retired(w: u64, pc: u64, target: u64, taken: bool) -> Event {
 }
 
 // A retired word by itself.
-pub fn draw_word(random: u64) -> Drawn {
+pub(crate) fn draw_word(random: u64) -> Drawn {
     let w = xorshift64(random);
     let pc = xorshift64(w);
     let target = xorshift64(pc);
@@ -223,7 +223,7 @@ fn event_of(mode: Mode, k: u64, w: u64, x: u64, y: u64, z: u64) -> Event {
 }
 
 // An event for a machine in a mode.
-pub fn draw_event(random: u64, mode: Mode) -> Drawn {
+pub(crate) fn draw_event(random: u64, mode: Mode) -> Drawn {
     let k = xorshift64(random);
     let w = xorshift64(k);
     let x = xorshift64(w);

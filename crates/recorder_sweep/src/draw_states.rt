@@ -7,9 +7,9 @@ use sweep_support::codes::mode_of;
 use test_support::xorshift64;
 
 // Registers, and the last word drawn for them.
-pub struct Start {
-    pub registers: Registers,
-    pub random: u64,
+pub(crate) struct Start {
+    pub(crate) registers: Registers,
+    pub(crate) random: u64,
 }
 
 // The control bits that a state may have: with inhibits or without, with RASEMU or without.
@@ -52,7 +52,7 @@ fn spoiled(r: Registers, choice: u64, d: u64) -> Registers {
     q
 }
 
-pub fn draw_registers(random: u64) -> Start {
+pub(crate) fn draw_registers(random: u64) -> Start {
     let a = xorshift64(random);
     let b = xorshift64(a);
     let c = xorshift64(b);
@@ -66,7 +66,7 @@ pub fn draw_registers(random: u64) -> Start {
 }
 
 // Fills the entries, undefined bits too, and answers the last word drawn.
-pub fn draw_entries(
+pub(crate) fn draw_entries(
     ctrsource: &mut [u64; ENTRIES],
     ctrtarget: &mut [u64; ENTRIES],
     ctrdata: &mut [u64; ENTRIES],

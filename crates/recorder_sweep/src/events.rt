@@ -12,7 +12,7 @@ struct Addresses {
     target: u64,
 }
 
-pub fn is_retired(e: Event) -> bool {
+pub(crate) fn is_retired(e: Event) -> bool {
     match e {
         Event::Retired { .. } => true,
         _ => false,
@@ -20,7 +20,7 @@ pub fn is_retired(e: Event) -> bool {
 }
 
 // Whether the value answered tells what was recorded.
-pub fn is_transfer(e: Event) -> bool {
+pub(crate) fn is_transfer(e: Event) -> bool {
     match e {
         Event::Retired { .. } => true,
         Event::Trap { .. } => true,
@@ -44,14 +44,14 @@ fn addresses_of(e: Event) -> Addresses {
 }
 
 // How many addresses two events of one kind differ in.
-pub fn differing_addresses(e: Event, other: Event) -> u64 {
+pub(crate) fn differing_addresses(e: Event, other: Event) -> u64 {
     let x = addresses_of(e);
     let y = addresses_of(other);
     wrapping_add_u64(flag(x.source != y.source), flag(x.target != y.target))
 }
 
 // Whether a machine is in a mode that is off.
-pub fn is_off(r: Registers) -> bool {
+pub(crate) fn is_off(r: Registers) -> bool {
     let m = r.mode;
     !is_on(r, m)
 }
@@ -71,7 +71,13 @@ fn target_address(a: Registers, b: Registers, to: Mode, address: u64, other: u64
 }
 
 // The event that run B gets for A's: with other addresses where that side is off in both runs.
-pub fn with_addresses(e: Event, a: Registers, b: Registers, source: u64, target: u64) -> Event {
+pub(crate) fn with_addresses(
+    e: Event,
+    a: Registers,
+    b: Registers,
+    source: u64,
+    target: u64,
+) -> Event {
     match e {
         Event::Trap {
             to,

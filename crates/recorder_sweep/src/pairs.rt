@@ -270,7 +270,7 @@ fn run_pairs() -> Tally {
     t
 }
 
-pub fn report() {
+pub(crate) fn report() {
     let t = run_pairs();
     let mut out = [0u8; 1024];
     let mut at = text::put(&mut out, 0, b"pairs\n");

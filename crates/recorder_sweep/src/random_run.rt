@@ -121,7 +121,7 @@ fn put_answers(out: &mut [u8], at: usize, numbers: [u64; 6], values: [u64; 5]) -
     put_counts(out, next, b"  value ", &values)
 }
 
-pub fn report() {
+pub(crate) fn report() {
     let t = run_lists();
     let mut out = [0u8; 1024];
     let mut at = text::put(&mut out, 0, b"random run\n");

@@ -8,7 +8,7 @@ use sweep_support::digests::digest_entry;
 use sweep_support::digests::digest_registers;
 
 // The digest h with the registers and every entry taken in.
-pub fn digest_state(
+pub(crate) fn digest_state(
     h: u64,
     r: Registers,
     ctrsource: &[u64; ENTRIES],
@@ -51,7 +51,7 @@ fn same_words(a: &[u64; ENTRIES], b: &[u64; ENTRIES]) -> bool {
 }
 
 // Whether a state has these registers and entries.
-pub fn is_same(
+pub(crate) fn is_same(
     s: State,
     r: Registers,
     ctrsource: &[u64; ENTRIES],

@@ -6,10 +6,10 @@ use libc::STDOUT_FILENO;
 const LAST_START: usize = 65408;
 
 // A place past every page, where standard output could not be written: all further text is dropped.
-pub const CLOSED: usize = usize::MAX;
+pub(crate) const CLOSED: usize = usize::MAX;
 
 // Writes the page, and answers the place to go on at.
-pub fn flush(out: &[u8], at: usize) -> usize {
+pub(crate) fn flush(out: &[u8], at: usize) -> usize {
     if at == CLOSED {
         return CLOSED;
     }
@@ -22,6 +22,6 @@ pub fn flush(out: &[u8], at: usize) -> usize {
 }
 
 // Writes the page if another line might not fit.
-pub fn make_room(out: &[u8], at: usize) -> usize {
+pub(crate) fn make_room(out: &[u8], at: usize) -> usize {
     if at > LAST_START { flush(out, at) } else { at }
 }

@@ -10,13 +10,13 @@ fn put_file(line: &mut [u8], name: &[u8]) -> usize {
 }
 
 // A file that can't be opened or read: the system's words say why.
-pub fn unreadable(name: &[u8]) {
+pub(crate) fn unreadable(name: &[u8]) {
     let mut line = [0u8; LONGEST];
     let at = put_file(&mut line, name);
     os::fail(text::before(&line, at));
 }
 
-pub fn malformed(name: &[u8], row: u64, word: u64) {
+pub(crate) fn malformed(name: &[u8], row: u64, word: u64) {
     let mut line = [0u8; LONGEST];
     let mut at = put_file(&mut line, name);
     at = text::put(&mut line, at, b": row ");
@@ -47,7 +47,7 @@ fn put_bytes(line: &mut [u8], at: usize, count: u64) -> usize {
     }
 }
 
-pub fn left_over(name: &[u8], count: u64, rows: u64) {
+pub(crate) fn left_over(name: &[u8], count: u64, rows: u64) {
     let mut line = [0u8; LONGEST];
     let mut at = put_file(&mut line, name);
     at = text::put(&mut line, at, b": ");
@@ -56,7 +56,7 @@ pub fn left_over(name: &[u8], count: u64, rows: u64) {
     io::write_all(STDERR_FILENO, text::before(&line, at));
 }
 
-pub fn unknown_flag(flag: &[u8]) {
+pub(crate) fn unknown_flag(flag: &[u8]) {
     let mut line = [0u8; LONGEST];
     let mut at = text::put(&mut line, 0, b"replay: unknown flag ");
     at = text::put(&mut line, at, flag);
@@ -64,6 +64,6 @@ pub fn unknown_flag(flag: &[u8]) {
     io::write_all(STDERR_FILENO, text::before(&line, at));
 }
 
-pub fn no_trace() {
+pub(crate) fn no_trace() {
     io::write_all(STDERR_FILENO, b"replay: no trace given\n");
 }

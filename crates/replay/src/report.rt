@@ -8,7 +8,7 @@ use machine::regs::physical;
 use recorder::ENTRIES;
 
 // How often each number was answered, and from 6 on how often each value.
-pub const COUNTS: usize = 11;
+pub(crate) const COUNTS: usize = 11;
 
 fn put_number_words(out: &mut [u8], at: usize, number: usize) -> usize {
     match number {
@@ -58,7 +58,7 @@ fn put_if_any(out: &mut [u8], at: usize, k: usize, count: u64) -> usize {
 }
 
 // How many events there were, and how many of each answer that occurred.
-pub fn put_counts(out: &mut [u8], at: usize, counts: &[u64; COUNTS], events: u64) -> usize {
+pub(crate) fn put_counts(out: &mut [u8], at: usize, counts: &[u64; COUNTS], events: u64) -> usize {
     let mut next = text::put(out, at, b"events ");
     next = text::put_decimal(out, next, events);
     next = text::put_byte(out, next, b'\n');
@@ -211,7 +211,7 @@ fn put_entries(
 }
 
 // The registers, the history and, if asked for, all entries.
-pub fn put_state(
+pub(crate) fn put_state(
     out: &mut [u8],
     at: usize,
     r: Registers,

@@ -379,7 +379,7 @@ fn replay_open(out: &mut [u8], at: usize, name: &[u8], file: File, state: bool) 
 }
 
 // A trace by its file's name.
-pub fn replay(
+pub(crate) fn replay(
     out: &mut [u8],
     at: usize,
     name: &[u8],
