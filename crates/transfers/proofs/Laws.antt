@@ -1,4 +1,5 @@
--- What `Hidden` and `StaysGood` state. Assumes nothing.
+-- What `Hidden`, `TrapOutcomes` and `StaysGood` state. Assumes nothing.
+use mathlib.Core.Path.{refl}
 use mathlib.Core.Bool.{Bool, true, false}
 use Prim.Native.Nat.{_+_, _%_}
 use native.Mathlib.Nat.{mod-lt}
@@ -16,9 +17,9 @@ use Rattle.machine.specs.declared.Entry.{Entry}
 use Rattle.machine.specs.declared.Decision.{Decision}
 use Rattle.transfers.specs.Changes.{possibleTrap, possibleReturn}
 use Rattle.transfers.specs.Records.{entryFor, sidePc, advanced, retreated}
-use Rattle.transfers.specs.Outcomes.{retiredOutcome, trapOutcome, trapType, returnOutcome}
+use Rattle.transfers.specs.Outcomes.{retiredOutcome, trapBy, trapOutcome, trapType, returnOutcome}
 use Rattle.transfers.specs.Transfers.{doneOf, retiredOf, inMode, crossing, takenTrap, trapOf, takenReturn, returnOf}
-use Rattle.transfers.specs.Laws.{Hidden, StaysGood}
+use Rattle.transfers.specs.Laws.{Hidden, TrapOutcomes, StaysGood}
 use Rattle.transfers.specs.declared.Outcome.{Outcome}
 use Rattle.transfers.specs.declared.Outcome.the-variants.{Nothing, Record, Pop, Swap, Freeze}
 
@@ -31,6 +32,14 @@ hidden r old =
       trap-target = (λ target interrupt cause epc handler handler′ h. rw h);
       return-source = (λ target pc pc′ target-pc h. rw h);
       return-target = (λ target pc target-pc target-pc′ h. rw h);
+    }
+
+pub trap-outcomes : TrapOutcomes
+unfolding trapBy
+trap-outcomes =
+    record {
+      freezes = (λ frozen rasemu source target inhibited external. refl);
+      external = (λ freezes frozen rasemu source external inhibited inhibited′. refl);
     }
 
 -- an outcome done keeps the registers free of number 5

@@ -9,7 +9,9 @@ use Rattle.machine.specs.Regs.{goodOf}
 use Rattle.machine.specs.declared.Mode.{Mode}
 use Rattle.machine.specs.declared.Registers.{Registers}
 use Rattle.machine.specs.declared.Entry.{Entry}
+use Rattle.transfers.specs.Outcomes.{trapBy}
 use Rattle.transfers.specs.Transfers.{retiredOf, trapOf, returnOf}
+use Rattle.transfers.specs.declared.Outcome.the-variants.{Freeze}
 
 -- no address of a side that is off reaches a decision, and a word retired in a mode that is off decides nothing
 pub record Hidden (r : Registers) (old : Entry) : Type 0 where
@@ -23,6 +25,15 @@ pub record Hidden (r : Registers) (old : Entry) : Type 0 where
       → onOf r (r .mode) ≡ false → returnOf r old target pc target-pc ≡ returnOf r old target pc′ target-pc
   pub return-target : (target : Mode) (pc target-pc target-pc′ : ℕ)
       → onOf r target ≡ false → returnOf r old target pc target-pc ≡ returnOf r old target pc target-pc′
+
+-- what the outcome of a trap does not depend on
+pub record TrapOutcomes : Type 0 where
+  -- a freezing trap freezes, whatever is frozen, on, inhibited or let through
+  pub freezes : (frozen rasemu source target inhibited external : Bool)
+      → trapBy true frozen rasemu source target inhibited external ≡ Freeze
+  -- of a trap into a mode that is off the inhibits are not asked
+  pub external : (freezes frozen rasemu source external inhibited inhibited′ : Bool)
+      → trapBy freezes frozen rasemu source false inhibited external ≡ trapBy freezes frozen rasemu source false inhibited′ external
 
 -- registers free of number 5 stay so
 pub record StaysGood (r : Registers) (old : Entry) : Type 0 where
