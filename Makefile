@@ -17,6 +17,7 @@ demo: program ## replay a sample trace and print its branch history (proves firs
 	@sh examples/demo.sh target/bin/replay target/demo
 
 test: ## prove everything and run every test: the gate
+	@scripts/demands-imports
 	@cd model && $(CARGO) test --release --offline
 	@rt ci
 

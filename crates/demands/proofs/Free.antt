@@ -7,10 +7,12 @@ use native.Mathlib.Omega.{arith}
 use borrow.Author.Tests.{leb-true, ltb-true, eqb-true, le-leb, lt-ltb, eq-eqb}
 use Rattle.bits.specs.Words.{bitAt, keep}
 use Rattle.bits.proofs.Laws.{bit-keep, same-bits}
-use Rattle.machine.specs.Regs.{goodOf}
+use Rattle.machine.specs.Regs.{depthOf, goodOf}
 use Rattle.machine.proofs.Good.{parts, whole}
 use Rattle.machine.specs.declared.Registers.{Registers}
-use Rattle.demands.specs.Demand1.{Within, Free}
+use Rattle.demands.specs.States.{Within, Free}
+use Rattle.demands.proofs.Decides.{Decides}
+use Rattle.demands.proofs.Tests.{depth-is}
 
 within : (mask x : ℕ) → keep mask x ≡ x → Within mask x
 within mask x e n h = omega (arith, bit-keep mask x n, ap (λ (y : ℕ). bitAt y n) e, h)
@@ -29,22 +31,25 @@ kept-bit x m h = ⊎-elim (λ z. omega arith) (λ o. omega (arith, h o)) (zero-o
 masked : (mask x : ℕ) → Within mask x → keep mask x ≡ x
 masked mask x h = same-bits _ _ (λ n. bit-keep mask x n ∙ kept-bit (x / 2 ^ n) (mask / 2 ^ n) (h n))
 
-pub good-free : (r : Registers) → goodOf r ≡ true → Free r
+good-free : (r : Registers) → goodOf r ≡ true → Free r
 good-free r h =
     let g = parts r h in
     record {
       code = leb-true _ _ (g .code);
-      pointer = ltb-true _ _ (g .pointer);
-      control = within _ _ (eqb-true _ _ (g .control));
-      guest = within _ _ (eqb-true _ _ (g .guest));
+      pointer = rw (depth-is (r .sctrdepth)) at (ltb-true (r .wrptr) (depthOf (r .sctrdepth)) (g .pointer));
+      mctrctl = within _ _ (eqb-true _ _ (g .control));
+      vsctrctl = within _ _ (eqb-true _ _ (g .guest));
     }
 
-pub free-good : (r : Registers) → Free r → goodOf r ≡ true
+free-good : (r : Registers) → Free r → goodOf r ≡ true
 free-good r f =
     whole r
     (record {
       code = le-leb _ _ (f .code);
-      pointer = lt-ltb _ _ (f .pointer);
-      control = eq-eqb _ _ (masked _ _ (f .control));
-      guest = eq-eqb _ _ (masked _ _ (f .guest));
+      pointer = lt-ltb (r .wrptr) (depthOf (r .sctrdepth)) (rw (depth-is (r .sctrdepth)) (f .pointer));
+      control = eq-eqb _ _ (masked _ _ (f .mctrctl));
+      guest = eq-eqb _ _ (masked _ _ (f .vsctrctl));
     })
+
+pub free : (r : Registers) → Decides (Free r) (goodOf r)
+free r = record { to = free-good r; from = good-free r }

@@ -1,15 +1,15 @@
--- What `Transfers` of demand 2 states. Assumes nothing.
-use Prim.Native.Nat.{ℕ, _%_, _≤_}
-use mathlib.Core.Path.{_≡_, refl, sym, ap, _∙_}
-use mathlib.Core.Bool.{Bool, true, false, not, _&&_, false≢true}
-use Rattle.bits.specs.Choice.{if_then_else_}
-use mathlib.Core.Logic.{_⊎_, inl, inr, ⊎-elim}
-use native.Mathlib.Nat.{mod-eq-of-lt, zero-mod}
+-- The definition `stepOf` meets demand 2 at retired words, traps and trap returns. Assumes nothing.
+use Prim.Native.Nat.{ℕ, zero, suc, _%_, _≤_}
+use mathlib.Core.Path.{_≡_, refl, sym, ap, subst, _∙_}
+use mathlib.Core.Bool.{Bool, true, false, not, _&&_}
+use mathlib.Core.Logic.{_⊎_, inl, inr, ⊎-elim, _↔_}
+use native.Mathlib.Nat.{mod-eq-of-lt}
 use native.Mathlib.Omega.{arith}
+use Rattle.bits.specs.Choice.{if_then_else_}
 use Rattle.classifier.specs.Transfers.{transferOf, typeOf}
 use Rattle.machine.specs.Filters.{inhibitedOf}
 use Rattle.machine.specs.Modes.{onOf, governingOf}
-use Rattle.machine.specs.Regs.{depthOf, physicalOf, goodOf}
+use Rattle.machine.specs.Regs.{depthOf, physicalOf}
 use Rattle.machine.specs.declared.Decision.{Decision}
 use Rattle.machine.specs.declared.Entry.{Entry}
 use Rattle.machine.specs.declared.Mode.{Mode}
@@ -17,27 +17,69 @@ use Rattle.machine.specs.declared.Registers.{Registers}
 use Rattle.transfers.specs.Changes.{possibleTrap, possibleReturn}
 use Rattle.transfers.specs.Outcomes.{stackOutcome, rasemuOf, onOutcome, retiredOutcome, trapBy, trapOutcome, returnBy, returnOutcome}
 use Rattle.transfers.specs.Records as Records
-use Rattle.transfers.specs.Records.{entryFor, sidePc, advanced, retreated}
+use Rattle.transfers.specs.Records.{entryFor, advanced, retreated}
 use Rattle.transfers.specs.Transfers as Done
 use Rattle.transfers.specs.Transfers.{doneOf, retiredOf, inMode, crossing, takenTrap, trapOf, takenReturn, returnOf}
 use Rattle.transfers.specs.declared.Outcome.{Outcome}
 use Rattle.transfers.specs.declared.Outcome.the-variants.{Nothing, Record, Pop, Swap, Freeze}
 use Rattle.recorder.specs.Decisions.{eventOf, decideOf}
-use Rattle.recorder.specs.Entries.{entryAt, appliedOf}
+use Rattle.recorder.specs.Entries.{entryAt, withEntry, appliedOf}
 use Rattle.recorder.specs.Events.{transferIn, atWrptr, retiredFocus, focusOf}
 use Rattle.recorder.specs.Steps.{stateOf, entriesIn, focusIn, decidedOf, stepOf}
 use Rattle.recorder.specs.declared.Event.{Event}
 use Rattle.recorder.specs.declared.Event.the-variants.{Retired, Trap, TrapReturn, Access, Sctrclr, Host}
 use Rattle.recorder.specs.declared.State.{State}
-use Rattle.demands.specs.Demand1.{Free, Impossible, Demand1}
-use Rattle.demands.specs.Demand2.{IsTransfer, modeAfter, oneUp, oneDown, newest, withRecord, withPop, withSwap, withFreeze, withMove, Transfers}
-use Rattle.demands.specs.Qualifies.{Qualifies, Pops, Swaps, Freezes, recordOf}
-use Rattle.demands.proofs.Demand1.{demand-1}
-use Rattle.demands.proofs.Free.{good-free, free-good}
-use Rattle.demands.proofs.Tests.{valueOf}
-use Rattle.demands.proofs.Outcomes.{outcomeIn, qualifies-value, pops-value, swaps-value, freezes-value, Came, came}
-use Rattle.demands.proofs.Outcomes.Came.{nothing, recorded, popped, swapped, frozen}
-use Rattle.demands.proofs.Pointer.{depth-ge, up-moves, down-moves, up-is-not-down}
+use Rattle.demands.specs.States.{depth, Free, Traps, Returns, Impossible, wrptrTo}
+use Rattle.demands.specs.Registers.{physical}
+use Rattle.demands.specs.Transfers.{recordOf, modeAfter, oneUp, oneDown, withoutV, withRecord, withPop, withSwap, withFreeze, withMove}
+use Rattle.demands.specs.Demands.{Demand1At, TransferAt}
+use Rattle.demands.proofs.Decides.{Decides, fails, holds, or-not}
+use Rattle.demands.proofs.Free.{free}
+use Rattle.demands.proofs.Numbers.{demand-1}
+use Rattle.demands.proofs.Outcomes.{outcomeIn, Says, says, qualifies-outcome, pops-outcome, swaps-outcome, freezes-outcome}
+use Rattle.demands.proofs.Pointer.{up-moves, down-moves, up-is-not-down}
+use Rattle.demands.proofs.Tests.{traps, returns, depth-is, depth-ge, physical-is, side-is}
+
+-- the value of an outcome, and the outcome of a value
+abbrev valueOf : Outcome → ℕ
+valueOf Nothing = 0
+valueOf Record = 1
+valueOf Pop = 2
+valueOf Swap = 3
+valueOf Freeze = 4
+
+abbrev withValue : ℕ → Outcome
+withValue zero = Nothing
+withValue (suc zero) = Record
+withValue (suc (suc zero)) = Pop
+withValue (suc (suc (suc zero))) = Swap
+withValue (suc (suc (suc (suc n)))) = Freeze
+
+value-back : (o : Outcome) → withValue (valueOf o) ≡ o
+value-back Nothing = refl
+value-back Record = refl
+value-back Pop = refl
+value-back Swap = refl
+value-back Freeze = refl
+
+same-outcome : (o p : Outcome) → valueOf o ≡ valueOf p → o ≡ p
+same-outcome o p h = sym (value-back o) ∙ ap withValue h ∙ value-back p
+
+value-le : (o : Outcome) → valueOf o ≤ 4
+value-le Nothing = omega arith
+value-le Record = omega arith
+value-le Pop = omega arith
+value-le Swap = omega arith
+value-le Freeze = omega arith
+
+-- retired words, traps and trap returns
+abbrev pub IsTransfer : Event → Type 0
+IsTransfer (Retired word pc target taken) = Unit {0}
+IsTransfer (Trap to interrupt cause epc handler) = Unit {0}
+IsTransfer (TrapReturn to pc target) = Unit {0}
+IsTransfer (Access operation number operand) = ⊥
+IsTransfer Sctrclr = ⊥
+IsTransfer (Host mstateen0 hstateen0) = ⊥
 
 -- the state after an outcome
 abbrev pub stateFor : State → Event → Outcome → State
@@ -54,11 +96,19 @@ Does s e d at o =
 
 -- WRPTR is below the depth
 at-pointer : (r : Registers) → Free r → r .wrptr % depthOf (r .sctrdepth) ≡ r .wrptr
-at-pointer r f = mod-eq-of-lt (f .pointer)
+at-pointer r f = rw (depth-is (r .sctrdepth)) (mod-eq-of-lt (f .pointer))
 
-at-newest : (r : Registers) → Free r → newest r ≡ oneDown r
-unfolding physicalOf
-at-newest r f = ap (λ (n : ℕ). n % depthOf (r .sctrdepth)) (omega (arith, at-pointer r f, zero-mod (depthOf (r .sctrdepth))))
+at-newest : (r : Registers) → physicalOf (r .sctrdepth) (r .wrptr) 0 ≡ physical r 0
+at-newest r = physical-is r 0 (omega (arith, depth-ge (r .sctrdepth)))
+
+-- WRPTR goes down to where logical entry 0 is
+pop-down : (s : State)
+    → (let r = s .registers in let p = physical r 0 in stateOf (wrptrTo p r) (withEntry (entriesIn s) p (withoutV (entryAt (entriesIn s) p)))) ≡ withPop s
+pop-down s =
+    let r = s .registers in
+    let p = physical r 0 in
+    ap (λ (w : ℕ). stateOf (wrptrTo w r) (withEntry (entriesIn s) p (withoutV (entryAt (entriesIn s) p))))
+    (ap (λ (x : ℕ). x % depth (r .sctrdepth)) (omega arith))
 
 retired-does : (s : State) (word pc target : ℕ) (taken : Bool) → Free (s .registers) → (o : Outcome)
     → Does s (Retired word pc target taken)
@@ -66,9 +116,9 @@ retired-does : (s : State) (word pc target : ℕ) (taken : Bool) → Free (s .re
     (Done.focusOf (s .registers) o) o
 unfolding doneOf Done.focusOf appliedOf entryFor advanced retreated Records.popped
 retired-does s word pc target taken f Nothing = (refl, refl)
-retired-does s word pc target taken f Record = (refl, rw (at-pointer (s .registers) f))
-retired-does s word pc target taken f Pop = (refl, rw (at-newest (s .registers) f))
-retired-does s word pc target taken f Swap = (refl, refl)
+retired-does s word pc target taken f Record = (refl, rw (at-pointer (s .registers) f, depth-is (s .registers .sctrdepth)))
+retired-does s word pc target taken f Pop = (refl, rw (at-newest (s .registers)) (pop-down s))
+retired-does s word pc target taken f Swap = (refl, rw (at-newest (s .registers)))
 retired-does s word pc target taken f Freeze = (refl, refl)
 
 -- a possible trap or return: nothing, a record or a freeze
@@ -82,7 +132,7 @@ module _ (s : State) (e : Event) (f : Free (s .registers)) where
 
   records : (old : Entry) → Does s e (decision old Record) (atWrptr (s .registers)) Record
   unfolding doneOf appliedOf advanced
-  records old = (refl, rw (at-pointer (s .registers) f))
+  records old = (refl, rw (at-pointer (s .registers) f, depth-is (s .registers .sctrdepth)))
 
   freezes : (old : Entry) → Does s e (decision old Freeze) (atWrptr (s .registers)) Freeze
   unfolding doneOf appliedOf
@@ -111,11 +161,7 @@ module _ (s : State) (e : Event) (f : Free (s .registers)) where
   return-does old false false false inh = moves old
 
 -- what a step does with an event that is answered
-not-false-is : (b : Bool) → (b ≡ false → ⊥) → b ≡ true
-not-false-is true h = refl
-not-false-is false h = absurd (h refl)
-
-abbrev pub Steps : State → Event → Type 0
+abbrev Steps : State → Event → Type 0
 Steps s e =
     (stepOf s e .value ≡ valueOf (outcomeIn (s .registers) e)) × (stepOf s e .state ≡ stateFor s e (outcomeIn (s .registers) e))
 
@@ -137,41 +183,53 @@ unfolding stepOf decidedOf focusIn decideOf eventOf focusOf retiredFocus transfe
 retired-steps s word pc target taken f =
     let r = s .registers in
     let m = r .mode in
-    rw (free-good r f)
+    rw (free r .to f)
     (retired-at s word pc target taken f (onOf r m) (r .frozen) (rasemuOf r m m)
     (inhibitedOf (governingOf r m m) (typeOf (transferOf word) taken)))
 
 trap-steps : (s : State) (to : Mode) (interrupt : Bool) (cause epc handler : ℕ) → Free (s .registers)
-    → possibleTrap (s .registers .mode) to ≡ true → Steps s (Trap to interrupt cause epc handler)
-unfolding stepOf decidedOf focusIn decideOf eventOf focusOf transferIn trapOf takenTrap crossing entryFor sidePc trapOutcome outcomeIn
+    → Traps (s .registers .mode) to → Steps s (Trap to interrupt cause epc handler)
+unfolding stepOf decidedOf focusIn decideOf eventOf focusOf transferIn trapOf takenTrap crossing entryFor trapOutcome outcomeIn
 trap-steps s to interrupt cause epc handler f p =
-    rw (free-good (s .registers) f, p) (trap-does s (Trap to interrupt cause epc handler) f _ _ _ _ _ _ _ _)
+    rw (free (s .registers) .to f, traps (s .registers .mode) to .to p, side-is (s .registers) (s .registers .mode) epc, side-is (s .registers) to handler) (trap-does s (Trap to interrupt cause epc handler) f _ _ _ _ _ _ _ _)
 
 return-steps : (s : State) (to : Mode) (pc target : ℕ) → Free (s .registers)
-    → possibleReturn (s .registers .mode) to ≡ true → Steps s (TrapReturn to pc target)
-unfolding stepOf decidedOf focusIn decideOf eventOf focusOf transferIn returnOf takenReturn crossing entryFor sidePc returnOutcome outcomeIn
+    → Returns (s .registers .mode) to → Steps s (TrapReturn to pc target)
+unfolding stepOf decidedOf focusIn decideOf eventOf focusOf transferIn returnOf takenReturn crossing entryFor returnOutcome outcomeIn
 return-steps s to pc target f p =
-    rw (free-good (s .registers) f, p) (return-does s (TrapReturn to pc target) f _ _ _ _ _)
+    rw (free (s .registers) .to f, returns (s .registers .mode) to .to p, side-is (s .registers) (s .registers .mode) pc, side-is (s .registers) to target) (return-does s (TrapReturn to pc target) f _ _ _ _ _)
 
+-- what is done with a possible change of mode, and that nothing comes of an impossible one
 steps : (s : State) (e : Event) → IsTransfer e → Free (s .registers) → (Impossible (s .registers) e → ⊥) → Steps s e
 steps s (Retired word pc target taken) k f i = retired-steps s word pc target taken f
-steps s (Trap to interrupt cause epc handler) k f i = trap-steps s to interrupt cause epc handler f (not-false-is _ i)
-steps s (TrapReturn to pc target) k f i = return-steps s to pc target f (not-false-is _ i)
+steps s (Trap to interrupt cause epc handler) k f i = trap-steps s to interrupt cause epc handler f (holds (traps (s .registers .mode) to) i)
+steps s (TrapReturn to pc target) k f i = return-steps s to pc target f (holds (returns (s .registers .mode) to) i)
 steps s (Access operation number operand) k f i = absurd k
 steps s Sctrclr k f i = absurd k
 steps s (Host mstateen0 hstateen0) k f i = absurd k
 
--- nothing comes of an impossible change
-impossible-nothing : (r : Registers) (e : Event) → IsTransfer e → Impossible r e → valueOf (outcomeIn r e) ≡ 0
+impossible-nothing : (r : Registers) (e : Event) → Impossible r e → outcomeIn r e ≡ Nothing
 unfolding outcomeIn
-impossible-nothing r (Retired word pc target taken) k i = absurd i
-impossible-nothing r (Trap to interrupt cause epc handler) k i = rw i
-impossible-nothing r (TrapReturn to pc target) k i = rw i
-impossible-nothing r (Access operation number operand) k i = absurd i
-impossible-nothing r Sctrclr k i = absurd i
-impossible-nothing r (Host mstateen0 hstateen0) k i = absurd i
+impossible-nothing r (Retired word pc target taken) i = absurd i
+impossible-nothing r (Trap to interrupt cause epc handler) i = rw (fails (traps (r .mode) to) i)
+impossible-nothing r (TrapReturn to pc target) i = rw (fails (returns (r .mode) to) i)
+impossible-nothing r (Access operation number operand) i = absurd i
+impossible-nothing r Sctrclr i = absurd i
+impossible-nothing r (Host mstateen0 hstateen0) i = absurd i
 
--- an outcome by its value, and by the state after it: WRPTR tells a record and a pop from all else
+-- whether a change of mode is impossible, by whether it is possible
+impossible-or : {A : Type 0} → A ⊎ (A → ⊥) → (A → ⊥) ⊎ ((A → ⊥) → ⊥)
+impossible-or p = ⊎-elim (λ a. inr (λ i. i a)) (λ n. inl n) p
+
+impossible-or-not : (r : Registers) (e : Event) → Impossible r e ⊎ (Impossible r e → ⊥)
+impossible-or-not r (Retired word pc target taken) = inr (λ i. i)
+impossible-or-not r (Trap to interrupt cause epc handler) = impossible-or (or-not (traps (r .mode) to))
+impossible-or-not r (TrapReturn to pc target) = impossible-or (or-not (returns (r .mode) to))
+impossible-or-not r (Access operation number operand) = inr (λ i. i)
+impossible-or-not r Sctrclr = inr (λ i. i)
+impossible-or-not r (Host mstateen0 hstateen0) = inr (λ i. i)
+
+-- the state after tells a record and a pop from all else, by WRPTR
 module _ (s : State) (e : Event) where
   abbrev r : Registers
   r = s .registers
@@ -180,181 +238,104 @@ module _ (s : State) (e : Event) where
   pointer t = t .registers .wrptr
 
   stands-up : {A : Type 0} → r .wrptr ≡ oneUp r → A
-  stands-up h = absurd (up-moves (r .wrptr) (depthOf (r .sctrdepth)) (depth-ge (r .sctrdepth)) h)
+  stands-up h = absurd (up-moves (r .wrptr) (depth (r .sctrdepth)) (omega (arith, depth-ge (r .sctrdepth))) h)
 
   stands-down : {A : Type 0} → r .wrptr ≡ oneDown r → A
-  stands-down h = absurd (down-moves (r .wrptr) (depthOf (r .sctrdepth)) (depth-ge (r .sctrdepth)) h)
+  stands-down h = absurd (down-moves (r .wrptr) (depth (r .sctrdepth)) (omega (arith, depth-ge (r .sctrdepth))) h)
 
   up-down : {A : Type 0} → Free r → oneUp r ≡ oneDown r → A
-  up-down f h = absurd (up-is-not-down (r .wrptr) (depthOf (r .sctrdepth)) (depth-ge (r .sctrdepth)) (f .pointer) h)
+  up-down f h = absurd (up-is-not-down (r .wrptr) (depth (r .sctrdepth)) (omega (arith, depth-ge (r .sctrdepth))) (f .pointer) h)
 
-  record-to : (o : Outcome) → valueOf o ≡ 1 → stateFor s e o ≡ withRecord s e
-  record-to Nothing h = absurd (omega arith)
-  record-to Record h = refl
-  record-to Pop h = absurd (omega arith)
-  record-to Swap h = absurd (omega arith)
-  record-to Freeze h = absurd (omega arith)
+  is-record : Free r → (o : Outcome) → stateFor s e o ≡ withRecord s e → o ≡ Record
+  is-record f Nothing h = stands-up (ap pointer h)
+  is-record f Record h = refl
+  is-record f Pop h = up-down f (sym (ap pointer h))
+  is-record f Swap h = stands-up (ap pointer h)
+  is-record f Freeze h = stands-up (ap pointer h)
 
-  record-from : Free r → (o : Outcome) → stateFor s e o ≡ withRecord s e → valueOf o ≡ 1
-  record-from f Nothing h = stands-up (ap pointer h)
-  record-from f Record h = refl
-  record-from f Pop h = up-down f (sym (ap pointer h))
-  record-from f Swap h = stands-up (ap pointer h)
-  record-from f Freeze h = stands-up (ap pointer h)
+  is-pop : Free r → (o : Outcome) → stateFor s e o ≡ withPop s → o ≡ Pop
+  is-pop f Nothing h = stands-down (ap pointer h)
+  is-pop f Record h = up-down f (ap pointer h)
+  is-pop f Pop h = refl
+  is-pop f Swap h = stands-down (ap pointer h)
+  is-pop f Freeze h = stands-down (ap pointer h)
 
-  pop-to : (o : Outcome) → valueOf o ≡ 2 → stateFor s e o ≡ withPop s
-  pop-to Nothing h = absurd (omega arith)
-  pop-to Record h = absurd (omega arith)
-  pop-to Pop h = refl
-  pop-to Swap h = absurd (omega arith)
-  pop-to Freeze h = absurd (omega arith)
-
-  pop-from : Free r → (o : Outcome) → stateFor s e o ≡ withPop s → valueOf o ≡ 2
-  pop-from f Nothing h = stands-down (ap pointer h)
-  pop-from f Record h = up-down f (ap pointer h)
-  pop-from f Pop h = refl
-  pop-from f Swap h = stands-down (ap pointer h)
-  pop-from f Freeze h = stands-down (ap pointer h)
-
-  swap-to : (o : Outcome) → valueOf o ≡ 3 → stateFor s e o ≡ withSwap s e
-  swap-to Nothing h = absurd (omega arith)
-  swap-to Record h = absurd (omega arith)
-  swap-to Pop h = absurd (omega arith)
-  swap-to Swap h = refl
-  swap-to Freeze h = absurd (omega arith)
-
-  freeze-to : (o : Outcome) → valueOf o ≡ 4 → stateFor s e o ≡ withFreeze s e
-  freeze-to Nothing h = absurd (omega arith)
-  freeze-to Record h = absurd (omega arith)
-  freeze-to Pop h = absurd (omega arith)
-  freeze-to Swap h = absurd (omega arith)
-  freeze-to Freeze h = refl
-
-  pub nothing-to : (o : Outcome) → valueOf o ≡ 0 → stateFor s e o ≡ withMove s e
-  nothing-to Nothing h = refl
-  nothing-to Record h = absurd (omega arith)
-  nothing-to Pop h = absurd (omega arith)
-  nothing-to Swap h = absurd (omega arith)
-  nothing-to Freeze h = absurd (omega arith)
-
-  at-most : (o : Outcome) → valueOf o ≤ 4
-  at-most Nothing = omega arith
-  at-most Record = omega arith
-  at-most Pop = omega arith
-  at-most Swap = omega arith
-  at-most Freeze = omega arith
-
--- a relation by its value
-came-recorded : (r : Registers) (e : Event) (v : ℕ) → Came r e v → v ≡ 1 → Qualifies r e
-came-recorded r e v (nothing z) h = absurd (omega arith)
-came-recorded r e v (recorded q z) h = q
-came-recorded r e v (popped q z) h = absurd (omega arith)
-came-recorded r e v (swapped q z) h = absurd (omega arith)
-came-recorded r e v (frozen q z) h = absurd (omega arith)
-
-came-popped : (r : Registers) (e : Event) (v : ℕ) → Came r e v → v ≡ 2 → Pops r e
-came-popped r e v (nothing z) h = absurd (omega arith)
-came-popped r e v (recorded q z) h = absurd (omega arith)
-came-popped r e v (popped q z) h = q
-came-popped r e v (swapped q z) h = absurd (omega arith)
-came-popped r e v (frozen q z) h = absurd (omega arith)
-
-came-swapped : (r : Registers) (e : Event) (v : ℕ) → Came r e v → v ≡ 3 → Swaps r e
-came-swapped r e v (nothing z) h = absurd (omega arith)
-came-swapped r e v (recorded q z) h = absurd (omega arith)
-came-swapped r e v (popped q z) h = absurd (omega arith)
-came-swapped r e v (swapped q z) h = q
-came-swapped r e v (frozen q z) h = absurd (omega arith)
-
-came-frozen : (r : Registers) (e : Event) (v : ℕ) → Came r e v → v ≡ 4 → Freezes r e
-came-frozen r e v (nothing z) h = absurd (omega arith)
-came-frozen r e v (recorded q z) h = absurd (omega arith)
-came-frozen r e v (popped q z) h = absurd (omega arith)
-came-frozen r e v (swapped q z) h = absurd (omega arith)
-came-frozen r e v (frozen q z) h = q
-
--- an event that is refused
-refused-transfers : (s : State) (e : Event) → (Free (s .registers) → valueOf (outcomeIn (s .registers) e) ≡ 0)
-    → stepOf s e .value ≡ 0 → stepOf s e .state ≡ s → (stepOf s e .number ≡ 0 → ⊥) → Transfers s e
+-- an event that is refused: nothing comes of it
+refused-transfers : (s : State) (e : Event) → (Free (s .registers) → outcomeIn (s .registers) e ≡ Nothing)
+    → stepOf s e .value ≡ 0 → stepOf s e .state ≡ s → (stepOf s e .number ≡ 0 → ⊥) → TransferAt s e (stepOf s e)
 refused-transfers s e z v t n =
     record {
-      qualifies = ((λ h. absurd (omega (arith, v, h))), (λ q. absurd (omega (arith, z (q .0), qualifies-value (q .1)))));
+      qualifies = never Record qualifies-outcome (omega arith);
+      pops = never Pop pops-outcome (omega arith);
+      swaps = never Swap swaps-outcome (omega arith);
+      freezes = never Freeze freezes-outcome (omega arith);
+      no-other = omega (arith, v);
       recorded = ((λ h. absurd (omega (arith, v, h))), (λ h. stands-up s e (ap (λ (x : State). x .registers .wrptr) (sym t ∙ h))));
-      pops = ((λ h. absurd (omega (arith, v, h))), (λ q. absurd (omega (arith, z (q .0), pops-value (q .1)))));
       popped = ((λ h. absurd (omega (arith, v, h))), (λ h. stands-down s e (ap (λ (x : State). x .registers .wrptr) (sym t ∙ h))));
-      swaps = ((λ h. absurd (omega (arith, v, h))), (λ q. absurd (omega (arith, z (q .0), swaps-value (q .1)))));
       swapped = (λ h. absurd (omega (arith, v, h)));
-      freezes = ((λ h. absurd (omega (arith, v, h))), (λ q. absurd (omega (arith, z (q .0), freezes-value (q .1)))));
       frozen = (λ h. absurd (omega (arith, v, h)));
       nothing = (λ h k. absurd (n h));
-      no-other = omega (arith, v);
     }
-
--- an event that is answered
-answered-transfers : (s : State) (e : Event) → Free (s .registers) → Steps s e → Transfers s e
-answered-transfers s e f p =
-    let r = s .registers in
-    let o = outcomeIn r e in
-    let v = p .0 in
-    let t = p .1 in
-    let c = came r e in
-    record {
-      qualifies = ((λ h. (f, came-recorded r e _ c (sym v ∙ h))), (λ q. v ∙ qualifies-value (q .1)));
-      recorded = ((λ h. t ∙ record-to s e o (sym v ∙ h)), (λ h. v ∙ record-from s e f o (sym t ∙ h)));
-      pops = ((λ h. (f, came-popped r e _ c (sym v ∙ h))), (λ q. v ∙ pops-value (q .1)));
-      popped = ((λ h. t ∙ pop-to s e o (sym v ∙ h)), (λ h. v ∙ pop-from s e f o (sym t ∙ h)));
-      swaps = ((λ h. (f, came-swapped r e _ c (sym v ∙ h))), (λ q. v ∙ swaps-value (q .1)));
-      swapped = (λ h. t ∙ swap-to s e o (sym v ∙ h));
-      freezes = ((λ h. (f, came-frozen r e _ c (sym v ∙ h))), (λ q. v ∙ freezes-value (q .1)));
-      frozen = (λ h. t ∙ freeze-to s e o (sym v ∙ h));
-      nothing = (λ n h. t ∙ nothing-to s e o (sym v ∙ h));
-      no-other = rw v (at-most s e o);
-    }
-
-is-false : (b : Bool) → (b ≡ false) ⊎ (b ≡ false → ⊥)
-is-false true = inr (λ h. false≢true (sym h))
-is-false false = inl refl
-
--- of an event free of number 5, whether its change of mode is possible
-possible-or-not : (r : Registers) (e : Event) → IsTransfer e → Impossible r e ⊎ (Impossible r e → ⊥)
-possible-or-not r (Retired word pc target taken) k = inr (λ i. i)
-possible-or-not r (Trap to interrupt cause epc handler) k = is-false (possibleTrap (r .mode) to)
-possible-or-not r (TrapReturn to pc target) k = is-false (possibleReturn (r .mode) to)
-possible-or-not r (Access operation number operand) k = absurd k
-possible-or-not r Sctrclr k = absurd k
-possible-or-not r (Host mstateen0 hstateen0) k = absurd k
-
--- a transfer is refused, or answered with its outcome
-pub data Told (s : State) (e : Event) : Type 0 where
-  refused : (Free (s .registers) → valueOf (outcomeIn (s .registers) e) ≡ 0)
-      → stepOf s e .value ≡ 0 → stepOf s e .state ≡ s → (stepOf s e .number ≡ 0 → ⊥) → Told s e
-  answered : Free (s .registers) → Steps s e → Told s e
-
-pub told : (s : State) (e : Event) → IsTransfer e → Told s e
-told s e k = go (goodOf (s .registers)) refl
   where
-    d : Demand1 s e
+    never : (o : Outcome) {A : Type 0} → (A → outcomeIn (s .registers) e ≡ o) → 1 ≤ valueOf o
+        → stepOf s e .value ≡ valueOf o ↔ (Free (s .registers) × A)
+    never o q l = (
+      (λ h. absurd (omega (arith, v, h, l))),
+      (λ a. absurd (omega (arith, l, ap valueOf (sym (z (a .0)) ∙ q (a .1))))),
+    )
+
+-- an event that is answered: each value by its outcome
+answered-transfers : (s : State) (e : Event) → Free (s .registers) → Steps s e → TransferAt s e (stepOf s e)
+answered-transfers s e f p =
+    record {
+      qualifies = line Record qualifies-outcome;
+      pops = line Pop pops-outcome;
+      swaps = line Swap swaps-outcome;
+      freezes = line Freeze freezes-outcome;
+      no-other = rw v (value-le o);
+      recorded = (ended Record, (λ h. v ∙ ap valueOf (is-record s e f o (sym t ∙ h))));
+      popped = (ended Pop, (λ h. v ∙ ap valueOf (is-pop s e f o (sym t ∙ h))));
+      swapped = ended Swap;
+      frozen = ended Freeze;
+      nothing = (λ n h. ended Nothing h);
+    }
+  where
+    o : Outcome
+    o = outcomeIn (s .registers) e
+
+    v : stepOf s e .value ≡ valueOf o
+    v = p .0
+
+    t : stepOf s e .state ≡ stateFor s e o
+    t = p .1
+
+    is : (q : Outcome) → stepOf s e .value ≡ valueOf q → o ≡ q
+    is q h = same-outcome o q (sym v ∙ h)
+
+    line : (q : Outcome) → (Says (s .registers) e q → o ≡ q) → stepOf s e .value ≡ valueOf q ↔ (Free (s .registers) × Says (s .registers) e q)
+    line q back = ((λ h. (f, subst (Says (s .registers) e) (is q h) (says (s .registers) e))), (λ a. v ∙ ap valueOf (back (a .1))))
+
+    ended : (q : Outcome) → stepOf s e .value ≡ valueOf q → stepOf s e .state ≡ stateFor s e q
+    ended q h = t ∙ ap (stateFor s e) (is q h)
+
+pub transfers : (s : State) (e : Event) → IsTransfer e → TransferAt s e (stepOf s e)
+transfers s e k = ⊎-elim good bad (or-not (free (s .registers)))
+  where
+    d : Demand1At s e (stepOf s e)
     d = demand-1 s e
 
-    because : (n : ℕ) → stepOf s e .number ≡ n → (n ≡ 0 → ⊥) → (Free (s .registers) → valueOf (outcomeIn (s .registers) e) ≡ 0) → Told s e
-    because n h z q =
-        let p : stepOf s e .number ≡ 0 → ⊥ = λ a. z (sym h ∙ a) in
-        refused q (d .refused p .0) (d .refused p .1) p
+    refused : (n : ℕ) → 1 ≤ n → stepOf s e .number ≡ n → (Free (s .registers) → outcomeIn (s .registers) e ≡ Nothing)
+        → TransferAt s e (stepOf s e)
+    refused n l h q =
+        let p : stepOf s e .number ≡ 0 → ⊥ = λ a. omega (arith, l, h, a) in
+        refused-transfers s e q (d .refused p .0) (d .refused p .1) p
 
-    go : (b : Bool) → goodOf (s .registers) ≡ b → Told s e
-    go true g =
-        let f = good-free (s .registers) g in
+    good : Free (s .registers) → TransferAt s e (stepOf s e)
+    good f =
         ⊎-elim
-        (λ i. because 4 (d .four .1 (f, i)) (λ h. omega arith) (λ q. impossible-nothing (s .registers) e k i))
-        (λ i. answered f (steps s e k f i))
-        (possible-or-not (s .registers) e k)
-    go false g =
-        let n : Free (s .registers) → ⊥ = λ f. false≢true (sym g ∙ free-good (s .registers) f) in
-        because 5 (d .five .1 n) (λ h. omega arith) (λ f. absurd (n f))
+        (λ i. refused 4 (omega arith) (d .four .1 (f, i)) (λ q. impossible-nothing (s .registers) e i))
+        (λ i. answered-transfers s e f (steps s e k f i))
+        (impossible-or-not (s .registers) e)
 
-pub transfers : (s : State) (e : Event) → IsTransfer e → Transfers s e
-transfers s e k = by-told (told s e k)
-  where
-    by-told : Told s e → Transfers s e
-    by-told (refused q v t n) = refused-transfers s e q v t n
-    by-told (answered f p) = answered-transfers s e f p
+    bad : (Free (s .registers) → ⊥) → TransferAt s e (stepOf s e)
+    bad n = refused 5 (omega arith) (d .five .1 n) (λ f. absurd (n f))

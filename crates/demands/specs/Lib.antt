@@ -1,7 +1,11 @@
+pub mod States
+pub mod Registers
+pub mod Steps
+pub mod Transfers
 pub mod Runs
-pub mod Demand1
-pub mod Qualifies
-pub mod Demand2
+pub mod Demands
 pub mod Demand3
+pub mod Changes
+pub mod Useless
 pub mod CodeRuns
 pub mod BenchTable

@@ -1,8 +1,8 @@
--- What `Demand1` states. Assumes nothing.
-use Prim.Native.Nat.{ℕ, _≤_}
+-- The definition `stepOf` meets demand 1. Assumes nothing.
+use Prim.Native.Nat.{ℕ, zero, suc, _≤_}
 use mathlib.Core.Path.{_≡_, refl, sym, ap, _∙_}
-use mathlib.Core.Bool.{Bool, true, false, false≢true}
-use mathlib.Core.Logic.{_⊎_, ⊎-elim}
+use mathlib.Core.Bool.{Bool, true, false}
+use mathlib.Core.Logic.{_⊎_, ⊎-elim, _↔_}
 use native.Mathlib.Omega.{arith}
 use borrow.Author.Tests.{eqb-false}
 use Rattle.bits.specs.Choice.{if_then_else_}
@@ -30,16 +30,20 @@ use Rattle.recorder.specs.Steps.{decidedOf, stepOf}
 use Rattle.recorder.specs.declared.Event.{Event}
 use Rattle.recorder.specs.declared.Event.the-variants.{Retired, Trap, TrapReturn, Access, Sctrclr, Host}
 use Rattle.recorder.specs.declared.State.{State}
-use Rattle.demands.specs.Demand1.{Free, Impossible, stepNumber, Answered, Demand1}
-use Rattle.demands.proofs.Free.{good-free, free-good}
+use Rattle.demands.specs.States.{Free, Impossible}
+use Rattle.demands.specs.Demands.{NotRefused, Demand1}
+use Rattle.demands.proofs.Decides.{Decides, no, negated}
+use Rattle.demands.proofs.Free.{free}
+use Rattle.demands.proofs.Steps.{stepNumber, step-numbers}
+use Rattle.demands.proofs.Tests.{traps, returns}
 
 -- which line of the table a decision is on
 data Line (r : Registers) (e : Event) (d : Decision) : Type 0 where
-  bad : goodOf r ≡ false → d ≡ refused r 5 → Line r e d
-  impossible : goodOf r ≡ true → Impossible r e → stepNumber r e ≡ 0 → d ≡ refused r 4 → Line r e d
-  step : goodOf r ≡ true → (Impossible r e → ⊥) → (stepNumber r e ≡ 0 → ⊥) → stepNumber r e ≤ 3
+  bad : (Free r → ⊥) → d ≡ refused r 5 → Line r e d
+  impossible : Free r → Impossible r e → stepNumber r e ≡ 0 → d ≡ refused r 4 → Line r e d
+  step : Free r → (Impossible r e → ⊥) → (stepNumber r e ≡ 0 → ⊥) → stepNumber r e ≤ 3
       → d .number ≡ stepNumber r e → Unchanged r d → Line r e d
-  answered : goodOf r ≡ true → (Impossible r e → ⊥) → stepNumber r e ≡ 0 → d .number ≡ 0 → Line r e d
+  answered : Free r → (Impossible r e → ⊥) → stepNumber r e ≡ 0 → d .number ≡ 0 → Line r e d
 
 -- an outcome done is answered
 done-number : (r : Registers) (old x : Entry) (o : Outcome) → doneOf r old x o .number ≡ 0
@@ -50,46 +54,46 @@ done-number r old x Pop = refl
 done-number r old x Swap = refl
 done-number r old x Freeze = refl
 
--- a change of mode
-changed : (r : Registers) (e : Event) (d : Decision) (b : Bool) → goodOf r ≡ true → d .number ≡ 0
-    → (b ≡ false → Impossible r e) → (Impossible r e → b ≡ false) → stepNumber r e ≡ 0
-    → Line r e (if b then d else refused r 4)
-changed r e d true g n p q z = answered g (λ i. false≢true (sym (q i))) z n
-changed r e d false g n p q z = impossible g (p refl) z refl
+-- a change of mode, by whether it is possible
+changed : (r : Registers) (e : Event) (d : Decision) (possible : Bool) {A : Type 0} → Free r → d .number ≡ 0
+    → (Impossible r e → A → ⊥) → ((A → ⊥) → Impossible r e) → Decides A possible → stepNumber r e ≡ 0
+    → Line r e (if possible then d else refused r 4)
+changed r e d true f n p q t z = answered f (λ i. p i (t .from refl)) z n
+changed r e d false f n p q t z = impossible f (q (no t refl)) z refl
 
 -- an access or SCTRCLR
-stepped : (r : Registers) (e : Event) (d : Decision) → goodOf r ≡ true → (Impossible r e → ⊥) → stepNumber r e ≤ 3
+stepped : (r : Registers) (e : Event) (d : Decision) → Free r → (Impossible r e → ⊥) → stepNumber r e ≤ 3
     → d .number ≡ stepNumber r e → ((d .number ≡ 0 → ⊥) → Unchanged r d) → Line r e d
-stepped r e d g i l n u =
-    ⊎-elim (λ z. answered g i z (n ∙ z))
-    (λ z. step g i (eqb-false _ _ z) l n (u (λ h. eqb-false _ _ z (sym n ∙ h))))
+stepped r e d f i l n u =
+    ⊎-elim (λ z. answered f i z (n ∙ z))
+    (λ z. step f i (eqb-false _ _ z) l n (u (λ h. eqb-false _ _ z (sym n ∙ h))))
     (known (stepNumber r e) 0)
 
-event-line : (r : Registers) (old : Entry) (t : Transfer) (e : Event) → goodOf r ≡ true → Line r e (eventOf r old t e)
+event-line : (r : Registers) (old : Entry) (t : Transfer) (e : Event) → Free r → Line r e (eventOf r old t e)
 unfolding eventOf retiredOf trapOf takenTrap returnOf takenReturn hostOf
-event-line r old t (Retired word pc target taken) g = answered g (λ i. i) refl (done-number r old _ _)
-event-line r old t (Trap to interrupt cause epc handler) g =
-    changed r (Trap to interrupt cause epc handler) (takenTrap r old to interrupt cause epc handler) (possibleTrap (r .mode) to) g
-    (done-number r old _ _) (λ h. h) (λ h. h) refl
-event-line r old t (TrapReturn to pc target) g =
-    changed r (TrapReturn to pc target) (takenReturn r old to pc target) (possibleReturn (r .mode) to) g
-    (done-number r old _ _) (λ h. h) (λ h. h) refl
-event-line r old t (Access operation number operand) g =
-    stepped r (Access operation number operand) (accessOf r old operation number operand) g (λ i. i)
+event-line r old t (Retired word pc target taken) f = answered f (λ i. i) refl (done-number r old _ _)
+event-line r old t (Trap to interrupt cause epc handler) f =
+    changed r (Trap to interrupt cause epc handler) (takenTrap r old to interrupt cause epc handler) _ f
+    (done-number r old _ _) (λ i p. i p) (λ i. i) (traps (r .mode) to) refl
+event-line r old t (TrapReturn to pc target) f =
+    changed r (TrapReturn to pc target) (takenReturn r old to pc target) _ f
+    (done-number r old _ _) (λ i p. i p) (λ i. i) (returns (r .mode) to) refl
+event-line r old t (Access operation number operand) f =
+    stepped r (Access operation number operand) (accessOf r old operation number operand) f (λ i. i)
     (refusals r (targetOf r (registerOf number)) .no-other)
     (laws .access-number r old operation number operand)
     (laws .refused-access r old operation number operand)
-event-line r old t Sctrclr g =
-    stepped r Sctrclr (sctrclrOf r) g (λ i. i) (refusals r sctrclrTarget .no-other) (laws .clear-number r) (laws .refused-clear r)
-event-line r old t (Host mstateen0 hstateen0) g = answered g (λ i. i) refl refl
+event-line r old t Sctrclr f =
+    stepped r Sctrclr (sctrclrOf r) f (λ i. i) (refusals r sctrclrTarget .no-other) (laws .clear-number r) (laws .refused-clear r)
+event-line r old t (Host mstateen0 hstateen0) f = answered f (λ i. i) refl refl
 
 line : (r : Registers) (old : Entry) (t : Transfer) (e : Event) → Line r e (decideOf r old t e)
 unfolding decideOf
-line r old t e = go (goodOf r) refl
+line r old t e = go (goodOf r) (free r)
   where
-    go : (b : Bool) → goodOf r ≡ b → Line r e (if b then eventOf r old t e else refused r 5)
-    go true g = event-line r old t e g
-    go false g = bad g refl
+    go : (b : Bool) → Decides (Free r) b → Line r e (if b then eventOf r old t e else refused r 5)
+    go true d = event-line r old t e (d .from refl)
+    go false d = bad (no d refl) refl
 
 -- a refusal's number, and that nothing else changes
 number-is : (r : Registers) (d : Decision) (n : ℕ) → d ≡ refused r n → d .number ≡ n
@@ -98,58 +102,65 @@ number-is r d n p = ap (λ (x : Decision). x .number) p
 unchanged : (r : Registers) (d : Decision) (n : ℕ) → d ≡ refused r n → Unchanged r d
 unchanged r d n p = rw p (refl, refl, refl)
 
-not-free : (r : Registers) → goodOf r ≡ false → Free r → ⊥
-not-free r g f = false≢true (sym g ∙ free-good r f)
-
 -- the lines read off, each both ways
 module _ (r : Registers) (e : Event) (d : Decision) where
-  zero-to : Line r e d → d .number ≡ 0 → Answered r e
+  zero-to : Line r e d → d .number ≡ 0 → NotRefused r e
   zero-to (bad g p) h = absurd (omega (arith, number-is r d 5 p, h))
   zero-to (impossible g i z p) h = absurd (omega (arith, number-is r d 4 p, h))
   zero-to (step g i z l n u) h = absurd (z (sym n ∙ h))
-  zero-to (answered g i z n) h = record { free = good-free r g; possible = i; granted = z }
+  zero-to (answered g i z n) h =
+      let k = step-numbers r e in
+      record {
+        free = g;
+        legal = (λ a. omega (arith, z, k .is-1 .1 a));
+        not-virtual = (λ a. omega (arith, z, k .is-2 .1 a));
+        found = (λ a. omega (arith, z, k .is-3 .1 a));
+        possible = i;
+      }
 
-  zero-from : Line r e d → Answered r e → d .number ≡ 0
-  zero-from (bad g p) a = absurd (not-free r g (a .free))
+  zero-from : Line r e d → NotRefused r e → d .number ≡ 0
+  zero-from (bad g p) a = absurd (g (a .free))
   zero-from (impossible g i z p) a = absurd (a .possible i)
-  zero-from (step g i z l n u) a = absurd (z (a .granted))
+  zero-from (step g i z l n u) a = absurd (one-of (stepNumber r e) refl l)
+    where
+      one-of : (k : ℕ) → stepNumber r e ≡ k → k ≤ 3 → ⊥
+      one-of zero h m = z h
+      one-of (suc zero) h m = a .legal (step-numbers r e .is-1 .0 h)
+      one-of (suc (suc zero)) h m = a .not-virtual (step-numbers r e .is-2 .0 h)
+      one-of (suc (suc (suc zero))) h m = a .found (step-numbers r e .is-3 .0 h)
+      one-of (suc (suc (suc (suc k)))) h m = omega arith
   zero-from (answered g i z n) a = n
 
   steps-to : Line r e d → (n : ℕ) → 1 ≤ n → n ≤ 3 → d .number ≡ n → Free r × (stepNumber r e ≡ n)
   steps-to (bad g p) n k l h = absurd (omega (arith, number-is r d 5 p, h, l))
   steps-to (impossible g i z p) n k l h = absurd (omega (arith, number-is r d 4 p, h, l))
-  steps-to (step g i z m q u) n k l h = (good-free r g, sym q ∙ h)
+  steps-to (step g i z m q u) n k l h = (g, sym q ∙ h)
   steps-to (answered g i z q) n k l h = absurd (omega (arith, q, h, k))
 
   steps-from : Line r e d → (n : ℕ) → 1 ≤ n → n ≤ 3 → Free r × (stepNumber r e ≡ n) → d .number ≡ n
-  steps-from (bad g p) n k l h = absurd (not-free r g (h .0))
+  steps-from (bad g p) n k l h = absurd (g (h .0))
   steps-from (impossible g i z p) n k l h = absurd (omega (arith, z, h .1, k))
   steps-from (step g i z m q u) n k l h = q ∙ h .1
   steps-from (answered g i z q) n k l h = absurd (omega (arith, z, h .1, k))
 
-  four-to : Line r e d → d .number ≡ 4 → Free r × Impossible r e
-  four-to (bad g p) h = absurd (omega (arith, number-is r d 5 p, h))
-  four-to (impossible g i z p) h = (good-free r g, i)
-  four-to (step g i z l n u) h = absurd (omega (arith, n, l, h))
-  four-to (answered g i z n) h = absurd (omega (arith, n, h))
+  -- 1, 2 and 3 alike: the sentence that gives the number of a step
+  step-line : Line r e d → (n : ℕ) → 1 ≤ n → n ≤ 3 → {A : Type 0} → stepNumber r e ≡ n ↔ A → d .number ≡ n ↔ (Free r × A)
+  step-line t n k l p = (
+    (λ h. let a = steps-to t n k l h in (a .0, p .0 (a .1))),
+    (λ a. steps-from t n k l (a .0, p .1 (a .1))),
+  )
 
-  four-from : Line r e d → Free r × Impossible r e → d .number ≡ 4
-  four-from (bad g p) h = absurd (not-free r g (h .0))
-  four-from (impossible g i z p) h = number-is r d 4 p
-  four-from (step g i z l n u) h = absurd (i (h .1))
-  four-from (answered g i z n) h = absurd (i (h .1))
+  four : Line r e d → d .number ≡ 4 ↔ (Free r × Impossible r e)
+  four (bad g p) = ((λ h. absurd (omega (arith, number-is r d 5 p, h))), (λ a. absurd (g (a .0))))
+  four (impossible g i z p) = ((λ h. (g, i)), (λ a. number-is r d 4 p))
+  four (step g i z l n u) = ((λ h. absurd (omega (arith, n, l, h))), (λ a. absurd (i (a .1))))
+  four (answered g i z n) = ((λ h. absurd (omega (arith, n, h))), (λ a. absurd (i (a .1))))
 
-  five-to : Line r e d → d .number ≡ 5 → Free r → ⊥
-  five-to (bad g p) h f = not-free r g f
-  five-to (impossible g i z p) h f = omega (arith, number-is r d 4 p, h)
-  five-to (step g i z l n u) h f = omega (arith, n, l, h)
-  five-to (answered g i z n) h f = omega (arith, n, h)
-
-  five-from : Line r e d → (Free r → ⊥) → d .number ≡ 5
-  five-from (bad g p) h = number-is r d 5 p
-  five-from (impossible g i z p) h = absurd (h (good-free r g))
-  five-from (step g i z l n u) h = absurd (h (good-free r g))
-  five-from (answered g i z n) h = absurd (h (good-free r g))
+  five : Line r e d → d .number ≡ 5 ↔ (Free r → ⊥)
+  five (bad g p) = ((λ h f. g f), (λ a. number-is r d 5 p))
+  five (impossible g i z p) = ((λ h f. omega (arith, number-is r d 4 p, h)), (λ a. absurd (a g)))
+  five (step g i z l n u) = ((λ h f. omega (arith, n, l, h)), (λ a. absurd (a g)))
+  five (answered g i z n) = ((λ h f. omega (arith, n, h)), (λ a. absurd (a g)))
 
   at-most : Line r e d → d .number ≤ 5
   at-most (bad g p) = omega (arith, number-is r d 5 p)
@@ -181,18 +192,21 @@ unchanged-state : (s : State) (e : Event) → Unchanged (s .registers) (decidedO
 unfolding stepOf appliedOf
 unchanged-state s e u = (u .0, rw (u .1, u .2))
 
-pub demand-1 : (s : State) (e : Event) → Demand1 s e
+pub demand-1 : Demand1 stepOf
 unfolding stepOf decidedOf
 demand-1 s e =
     let r = s .registers in
     let d = decidedOf s e in
     let l : Line r e d = line r _ _ e in
+    let k = step-numbers r e in
     record {
       zero = (zero-to r e d l, zero-from r e d l);
-      steps = (λ n a b. (steps-to r e d l n a b, steps-from r e d l n a b));
-      four = (four-to r e d l, four-from r e d l);
-      five = (five-to r e d l, five-from r e d l);
+      one = step-line r e d l 1 (omega arith) (omega arith) (k .is-1);
+      two = step-line r e d l 2 (omega arith) (omega arith) (k .is-2);
+      three = step-line r e d l 3 (omega arith) (omega arith) (k .is-3);
+      four = four r e d l;
+      five = five r e d l;
       no-other = at-most r e d l;
       refused = (λ h. unchanged-state s e (refusal r e d l h));
-      stays-free = (λ f. good-free _ (good-decided r _ _ e (free-good r f)));
+      stays-free = (λ f. free _ .from (good-decided r _ _ e (free r .to f)));
     }

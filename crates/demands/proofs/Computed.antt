@@ -1,0 +1,63 @@
+-- What holds by computation: the bench table, and the runs that the useless recorders are shown. Assumes nothing.
+use mathlib.Core.Path.{_≡_, refl}
+use mathlib.Core.Bool.{true, false}
+use Rattle.bits.specs.Words as Words
+use Rattle.classifier.specs.Transfers as Classifier
+use Rattle.classifier.proofs.Vectors.{vectors}
+use Rattle.machine.specs.Controls as Controls
+use Rattle.machine.specs.Modes as Modes
+use Rattle.machine.specs.Filters as Filters
+use Rattle.machine.specs.Regs as Regs
+use Rattle.machine.specs.declared.Mode.the-variants.{M}
+use Rattle.csr.specs.Numbers as Numbers
+use Rattle.csr.specs.Steps as AccessSteps
+use Rattle.access.specs.Readings as Readings
+use Rattle.access.specs.Writes as Writes
+use Rattle.access.specs.Accesses as Accesses
+use Rattle.transfers.specs.Records as Records
+use Rattle.transfers.specs.Outcomes as Outcomes
+use Rattle.transfers.specs.Transfers as Transfers
+use Rattle.recorder.specs.Events as Events
+use Rattle.recorder.specs.Decisions as Decisions
+use Rattle.recorder.specs.Entries as Entries
+use Rattle.recorder.specs.Steps as Steps
+use Rattle.recorder.specs.Steps.{stateOf, stepOf, resetState}
+use Rattle.recorder.specs.declared.Event.{Event}
+use Rattle.recorder.specs.declared.Event.the-variants.{Retired, Host}
+use Rattle.recorder.specs.declared.State.{State}
+use Rattle.demands.specs.States.{zeros}
+use Rattle.demands.specs.Runs as Runs
+use Rattle.demands.specs.BenchTable as Bench
+use Rattle.demands.specs.BenchTable.{BenchTable}
+use Rattle.demands.specs.Useless as Useless
+
+-- M with M on, depth 16, no entry yet; and a call
+abbrev pub fresh : State
+fresh =
+    stateOf (record { mode = M; mctrctl = 4; vsctrctl = 0; sctrdepth = 0; wrptr = 0; frozen = false; siselect = 0; vsiselect = 0; mstateen0 = false; hstateen0 = false })
+    zeros
+
+abbrev pub call : Event
+call = Retired 0x000000EF 0x1000 0x2000 false
+
+-- the same with that call recorded
+abbrev pub later : State
+later = stepOf fresh call .state
+
+-- both calls are recorded, and the entries then are not all zero; the host's event is answered
+abbrev pub Shown : Type 0
+Shown =
+    (stepOf fresh call .value ≡ 1)
+    × (stepOf later call .value ≡ 1)
+    × (Useless.allZero (later .ctrsource) ≡ false)
+    × (stepOf resetState (Host true true) .number ≡ 0)
+
+pub computed : BenchTable × Shown
+unfolding Words.keep Words.joined Classifier.transferOf Controls.isSet Modes.controlOf Modes.onOf Modes.governingOf Filters.freezesOf Filters.externalToS Filters.externalToM Filters.externalOf Filters.inhibitedOf Regs.depthOf Regs.physicalOf Regs.goodOf Numbers.registerOf Numbers.supervisorRegister Numbers.guestRegister Numbers.meantOf AccessSteps.firstStep AccessSteps.gatedOf AccessSteps.inWindow AccessSteps.outsideOf AccessSteps.refusalOf AccessSteps.step2 AccessSteps.step3 AccessSteps.step5 AccessSteps.targetOf Readings.entryReading Readings.isEntry Readings.readingOf Readings.statusOf Readings.wordOf Writes.entryWritten Writes.sctrctlWritten Writes.sctrdepthWritten Writes.sctrstatusWritten Writes.withWord Writes.writeOf Accesses.operatedOf Accesses.grantedOf Accesses.accessTo Accesses.accessOf Accesses.focusOf Accesses.hostOf Records.entryFor Records.sidePc Records.popped Records.advanced Records.retreated Outcomes.rasemuOf Outcomes.onOutcome Outcomes.retiredOutcome Outcomes.trapBy Outcomes.trapOutcome Outcomes.returnBy Outcomes.returnOutcome Transfers.focusOf Transfers.doneOf Transfers.retiredOf Transfers.crossing Transfers.takenTrap Transfers.trapOf Transfers.takenReturn Transfers.returnOf Events.transferIn Events.retiredFocus Events.focusOf Decisions.eventOf Decisions.decideOf Entries.appliedOf Steps.focusIn Steps.decidedOf Steps.stepOf Steps.resetState Runs.answersTo Runs.endOf Bench.noneRefused Useless.allZero
+computed = (
+  (vectors, ((refl, refl, refl), refl), ((refl, refl, refl), refl), (refl, refl, refl), refl, ((refl, refl, refl), refl), refl, (refl, refl, refl), refl, refl, ((refl, refl, refl), refl), ((refl, refl, refl), refl), ((refl, refl, refl), refl), ((refl, refl, refl), refl), (refl, refl, refl), refl, (refl, refl, refl), refl, (refl, refl, refl), refl, refl, refl, (refl, refl, refl), refl, refl),
+  (refl, refl, refl, refl),
+)
+
+pub bench-table : BenchTable
+bench-table = computed .0
