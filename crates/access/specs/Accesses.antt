@@ -1,52 +1,71 @@
 -- A register access, SCTRCLR and the host's event, from registers free of number 5; and which entry an access is about.
 use Prim.Native.Nat.{ℕ, _%_}
-use mathlib.Core.Bool.{Bool}
-use lib.Dec.{eqb}
+use mathlib.Core.Bool.{Bool, true, false}
 use Rattle.bits.specs.Choice.{if_then_else_}
 use Rattle.bits.specs.Words.{joined, without}
-use Rattle.machine.specs.Answers.{refused, answered, answeredClear}
-use Rattle.machine.specs.Regs.{withStateen, physicalOf}
+use Rattle.machine.specs.Answers.{numberOf, isAccepted, refused, answered, answeredClear}
+use Rattle.machine.specs.Regs.{withEnables, physicalOf}
+use Rattle.machine.specs.declared.CsrAccess.{CsrAccess}
 use Rattle.machine.specs.declared.Decision.{Decision}
+use Rattle.machine.specs.declared.Enables.{Enables}
 use Rattle.machine.specs.declared.Registers.{Registers}
 use Rattle.machine.specs.declared.Entry.{Entry}
+use Rattle.machine.specs.declared.Operation.{Operation}
+use Rattle.machine.specs.declared.Operation.the-variants.{Read, Write, Set, Clear}
+use Rattle.machine.specs.declared.Verdict.{Verdict}
+use Rattle.machine.specs.declared.Verdict.the-variants.{Accepted}
 use Rattle.csr.specs.Numbers.{registerOf, meantOf}
-use Rattle.csr.specs.Steps.{selectionOf, targetOf, sctrclrTarget, refusalOf}
+use Rattle.csr.specs.Steps.{selectionOf, factsOf, sctrclrFacts, refusalOf}
+use Rattle.csr.specs.declared.Csr.{Csr}
 use Rattle.access.specs.Readings.{readingOf}
-use Rattle.access.specs.Writes.{writeOf}
-use Rattle.csr.specs.declared.Register.{Register}
-use Rattle.access.specs.declared.Operation.{Operation}
-use Rattle.access.specs.declared.Operation.the-variants.{Read, Write, Set, Clear}
+use Rattle.access.specs.Writes.{registersWritten, effectWritten}
 
--- a granted access. Set and clear compute from the old reading, v, and then act as a write
-unfoldable pub operatedOf : Registers → Entry → Register → Operation → ℕ → ℕ → Decision
-operatedOf r old g Read v x = answered r v
-operatedOf r old g Write v x = writeOf r old g v x
-operatedOf r old g Set v x = writeOf r old g v (joined v x)
-operatedOf r old g Clear v x = writeOf r old g v (without v x)
+abbrev pub isRead : Operation → Bool
+isRead Read = true
+isRead Write = false
+isRead Set = false
+isRead Clear = false
 
-unfoldable pub grantedOf : Registers → Entry → Register → Operation → ℕ → Decision
+-- what an operation writes: set and clear compute from the old reading, v
+unfoldable pub operandOf : Operation → ℕ → ℕ → ℕ
+operandOf Read v x = v
+operandOf Write v x = x
+operandOf Set v x = joined v x
+operandOf Clear v x = without v x
+
+-- a register is written; the answer is the old reading, v
+unfoldable pub writeOf : Registers → Entry → Csr → ℕ → ℕ → Decision
+writeOf r old g v x =
+    record { number = numberOf Accepted; value = v; registers = registersWritten r g x; effect = effectWritten r old g x }
+
+-- an operation on a register that reads v
+unfoldable pub operatedOf : Registers → Entry → Csr → Operation → ℕ → ℕ → Decision
+operatedOf r old g o v x = if isRead o then answered r v else writeOf r old g v (operandOf o v x)
+
+-- a granted access
+unfoldable pub grantedOf : Registers → Entry → Csr → Operation → ℕ → Decision
 grantedOf r old g o x = operatedOf r old g o (readingOf r old g) x
 
--- refused with the number of a step, or the decision where none applies
-abbrev pub unlessRefused : ℕ → Registers → Decision → Decision
-unlessRefused n r d = if eqb n 0 then d else refused r n
+-- refused as the steps say, or the decision where they accept
+abbrev pub unlessRefused : Verdict → Registers → Decision → Decision
+unlessRefused v r d = if isAccepted v then d else refused r v
 
 -- an access to the register of a CSR number, given the entry in focus
-unfoldable pub accessTo : Registers → Entry → Register → Operation → ℕ → Decision
-accessTo r old g o x = unlessRefused (refusalOf r (targetOf r g)) r (grantedOf r old (meantOf (r .mode) g) o x)
+unfoldable pub accessTo : Registers → Entry → Csr → Operation → ℕ → Decision
+accessTo r old g o x = unlessRefused (refusalOf r (factsOf r g)) r (grantedOf r old (meantOf (r .mode) g) o x)
 
-unfoldable pub accessOf : Registers → Entry → Operation → ℕ → ℕ → Decision
-accessOf r old o number x = accessTo r old (registerOf number) o x
+unfoldable pub accessOf : Registers → Entry → CsrAccess → Decision
+accessOf r old a = accessTo r old (registerOf (a .number)) (a .operation) (a .operand)
 
 -- the physical entry that an access is about: the one that the register's selection means
 unfoldable pub focusOf : Registers → ℕ → ℕ
 focusOf r number =
-    physicalOf (r .sctrdepth) (r .wrptr) (selectionOf r (meantOf (r .mode) (registerOf number)) % 256)
+    physicalOf (r .buffer .code) (r .buffer .wrptr) (selectionOf (r .selects) (meantOf (r .mode) (registerOf number)) % 256)
 
 -- SCTRCLR zeroes all entry words; WRPTR and FROZEN stay
 unfoldable pub sctrclrOf : Registers → Decision
-sctrclrOf r = unlessRefused (refusalOf r sctrclrTarget) r (answeredClear r)
+sctrclrOf r = unlessRefused (refusalOf r sctrclrFacts) r (answeredClear r)
 
 -- the host sets the two state-enable bits
-unfoldable pub hostOf : Registers → Bool → Bool → Decision
-hostOf r m h = answered (withStateen r m h) 0
+unfoldable pub hostOf : Registers → Enables → Decision
+hostOf r e = answered (withEnables r e) 0

@@ -1,26 +1,30 @@
 -- What holds of register accesses. Proved in proofs/.
-use Prim.Native.Nat.{ℕ, _+_, _*_, _/_, _%_, min}
+use Prim.Native.Nat.{ℕ, _+_, _%_, min}
 use mathlib.Core.Path.{_≡_}
-use mathlib.Core.Bool.{Bool, true, false, not, _&&_}
-use lib.Dec.{eqb, ltb}
+use mathlib.Core.Bool.{true}
+use lib.Dec.{eqb}
 use Rattle.bits.specs.Choice.{if_then_else_}
-use Rattle.bits.specs.Words.{bitAt, keep, joined, without}
+use Rattle.bits.specs.Words.{bitAt, keep}
+use Rattle.machine.specs.Answers.{numberOf}
 use Rattle.machine.specs.Controls.{mctrctlMask, sctrctlMask}
+use Rattle.machine.specs.Entries.{definedOf}
 use Rattle.machine.specs.Regs.{topCode, depthOf, goodOf}
+use Rattle.machine.specs.declared.CsrAccess.{CsrAccess}
+use Rattle.machine.specs.declared.Enables.{Enables}
 use Rattle.machine.specs.declared.Registers.{Registers}
 use Rattle.machine.specs.declared.Entry.{Entry}
 use Rattle.machine.specs.declared.Effect.{Effect}
 use Rattle.machine.specs.declared.Effect.the-variants.{Keep, Put, ClearAll}
 use Rattle.machine.specs.declared.Decision.{Decision}
-use Rattle.csr.specs.Numbers.{registerOf, meantOf}
-use Rattle.csr.specs.Steps.{targetOf, sctrclrTarget, refusalOf}
-use Rattle.csr.specs.declared.Register.{Register}
-use Rattle.csr.specs.declared.Register.the-variants.{Mctrctl, Sctrctl, Vsctrctl, Sctrdepth, Sctrstatus, Siselect, Vsiselect, Sireg, Vsireg, Unlisted}
+use Rattle.csr.specs.Numbers.{registerOf}
+use Rattle.csr.specs.Steps.{factsOf, sctrclrFacts, refusalOf}
+use Rattle.csr.specs.declared.View.{View}
+use Rattle.csr.specs.declared.View.the-variants.{Machine, Supervisor, Guest}
+use Rattle.csr.specs.declared.Csr.{Csr}
+use Rattle.csr.specs.declared.Csr.the-variants.{Control, Select, Ireg, Depth, Status, Unlisted}
 use Rattle.access.specs.Readings.{frozenBit, isEntry, readingOf}
-use Rattle.access.specs.Writes.{withWord, writeOf}
+use Rattle.access.specs.Writes.{registersWritten, withWord, effectWritten}
 use Rattle.access.specs.Accesses.{accessOf, sctrclrOf, hostOf}
-use Rattle.access.specs.declared.Operation.{Operation}
-use Rattle.access.specs.declared.Operation.the-variants.{Read, Write, Set, Clear}
 
 -- nothing is changed, and the value is 0
 abbrev pub Unchanged : Registers → Decision → Type 0
@@ -32,98 +36,47 @@ entryAfter old Keep = old
 entryAfter old (Put e) = e
 entryAfter old ClearAll = record { ctrsource = 0; ctrtarget = 0; ctrdata = 0 }
 
--- the entry word that a write puts, where it puts one: word 0, 1 or 2 of an entry below the depth
-abbrev pub putsOf : Registers → Register → Bool
-putsOf r (Sireg k) = isEntry r (r .siselect) && ltb k 3
-putsOf r (Vsireg k) = isEntry r (r .vsiselect) && ltb k 3
-putsOf r Mctrctl = false
-putsOf r Sctrctl = false
-putsOf r Vsctrctl = false
-putsOf r Sctrdepth = false
-putsOf r Sctrstatus = false
-putsOf r Siselect = false
-putsOf r Vsiselect = false
-putsOf r Unlisted = false
+-- the legal value of what is written to a control register, to a select register, to a word of an entry that is selected
+abbrev pub legalControl : View → ℕ → ℕ
+legalControl Machine x = keep mctrctlMask x
+legalControl Supervisor x = keep sctrctlMask x
+legalControl Guest x = keep sctrctlMask x
 
-abbrev pub wordIndex : Register → ℕ
-wordIndex (Sireg k) = k
-wordIndex (Vsireg k) = k
-wordIndex Mctrctl = 0
-wordIndex Sctrctl = 0
-wordIndex Vsctrctl = 0
-wordIndex Sctrdepth = 0
-wordIndex Sctrstatus = 0
-wordIndex Siselect = 0
-wordIndex Vsiselect = 0
-wordIndex Unlisted = 0
+abbrev pub legalSelect : View → ℕ → ℕ
+legalSelect Machine x = 0
+legalSelect Supervisor x = x
+legalSelect Guest x = x
 
--- the legal value of what is written to word k of an entry
-abbrev pub legalWord : ℕ → ℕ → ℕ
-legalWord k x = if eqb k 0 then x else (if eqb k 1 then x / 2 * 2 else (if eqb k 2 then x % 16 else 0))
+abbrev pub legalEntry : Registers → View → ℕ → ℕ → ℕ
+legalEntry r Machine k x = if isEntry (r .buffer) 0 then definedOf k x else 0
+legalEntry r Supervisor k x = if isEntry (r .buffer) (r .selects .siselect) then definedOf k x else 0
+legalEntry r Guest k x = if isEntry (r .buffer) (r .selects .vsiselect) then definedOf k x else 0
 
 -- the legal value of what is written to a register
-unfoldable pub legalOf : Registers → Register → ℕ → ℕ
-legalOf r Mctrctl x = keep mctrctlMask x
-legalOf r Sctrctl x = keep sctrctlMask x
-legalOf r Vsctrctl x = keep sctrctlMask x
-legalOf r Sctrdepth x = min (x % 8) topCode
-legalOf r Sctrstatus x = x % 256 % depthOf (r .sctrdepth) + frozenBit (eqb (bitAt x 31) 1)
-legalOf r Siselect x = x
-legalOf r Vsiselect x = x
-legalOf r (Sireg k) x = if isEntry r (r .siselect) then legalWord k x else 0
-legalOf r (Vsireg k) x = if isEntry r (r .vsiselect) then legalWord k x else 0
+unfoldable pub legalOf : Registers → Csr → ℕ → ℕ
+legalOf r (Control v) x = legalControl v x
+legalOf r (Select v) x = legalSelect v x
+legalOf r (Ireg v k) x = legalEntry r v k x
+legalOf r Depth x = min (x % 8) topCode
+legalOf r Status x = x % 256 % depthOf (r .buffer .code) + frozenBit (eqb (bitAt x 31) 1)
 legalOf r Unlisted x = 0
-
--- what an operation writes, given the old reading v
-abbrev pub operandOf : Operation → ℕ → ℕ → ℕ
-operandOf Read v x = v
-operandOf Write v x = x
-operandOf Set v x = joined v x
-operandOf Clear v x = without v x
-
-abbrev pub isRead : Operation → Bool
-isRead Read = true
-isRead Write = false
-isRead Set = false
-isRead Clear = false
-
--- whether an access to a register is granted
-abbrev pub isGranted : Registers → Register → Bool
-isGranted r g = eqb (refusalOf r (targetOf r g)) 0
-
--- the effect of an access to a register, g by its number and m as it means in the mode: the entry in focus is put where the
--- access is granted, is no read, and reaches a word of an entry
-abbrev pub effectOf : Registers → Entry → Register → Register → Operation → ℕ → Effect
-effectOf r old g m o x =
-    if isGranted r g && (not (isRead o) && putsOf r m)
-    then Put (withWord old (wordIndex m) (operandOf o (readingOf r old m) x))
-    else Keep
 
 pub record Laws : Type 0 where
   -- the number of an answer is that of the first step that applies
-  pub access-number : (r : Registers) (old : Entry) (o : Operation) (number x : ℕ)
-      → accessOf r old o number x .number ≡ refusalOf r (targetOf r (registerOf number))
-  pub clear-number : (r : Registers) → sctrclrOf r .number ≡ refusalOf r sctrclrTarget
+  pub access-number : (r : Registers) (old : Entry) (a : CsrAccess)
+      → accessOf r old a .number ≡ numberOf (refusalOf r (factsOf r (registerOf (a .number))))
+  pub clear-number : (r : Registers) → sctrclrOf r .number ≡ numberOf (refusalOf r sctrclrFacts)
   -- refused means unchanged, with value 0
-  pub refused-access : (r : Registers) (old : Entry) (o : Operation) (number x : ℕ)
-      → (accessOf r old o number x .number ≡ 0 → ⊥) → Unchanged r (accessOf r old o number x)
+  pub refused-access : (r : Registers) (old : Entry) (a : CsrAccess)
+      → (accessOf r old a .number ≡ 0 → ⊥) → Unchanged r (accessOf r old a)
   pub refused-clear : (r : Registers) → (sctrclrOf r .number ≡ 0 → ⊥) → Unchanged r (sctrclrOf r)
-  -- a read changes nothing
-  pub read-only : (r : Registers) (old : Entry) (number x : ℕ)
-      → (accessOf r old Read number x .registers ≡ r) × (accessOf r old Read number x .effect ≡ Keep)
-  -- SCTRCLR leaves the registers as they are, WRPTR and FROZEN too
-  pub clear-registers : (r : Registers) → sctrclrOf r .registers ≡ r
-  -- which accesses put an entry, and which word of it
-  pub effects : (r : Registers) (old : Entry) (o : Operation) (number x : ℕ)
-      → accessOf r old o number x .effect ≡ effectOf r old (registerOf number) (meantOf (r .mode) (registerOf number)) o x
   -- a write and then a read of the same register give the legal value of what was written
-  pub write-read : (r : Registers) (old : Entry) (g : Register) (v x : ℕ)
-      → readingOf (writeOf r old g v x .registers) (entryAfter old (writeOf r old g v x .effect)) g ≡ legalOf r g x
+  pub write-read : (r : Registers) (old : Entry) (g : Csr) (x : ℕ)
+      → readingOf (registersWritten r g x) (entryAfter old (effectWritten r old g x)) g ≡ legalOf r g x
   -- registers free of number 5 stay so
-  pub good-access : (r : Registers) (old : Entry) (o : Operation) (number x : ℕ)
-      → goodOf r ≡ true → goodOf (accessOf r old o number x .registers) ≡ true
+  pub good-access : (r : Registers) (old : Entry) (a : CsrAccess) → goodOf r ≡ true → goodOf (accessOf r old a .registers) ≡ true
   pub good-clear : (r : Registers) → goodOf r ≡ true → goodOf (sctrclrOf r .registers) ≡ true
-  pub good-host : (r : Registers) (m h : Bool) → goodOf r ≡ true → goodOf (hostOf r m h .registers) ≡ true
+  pub good-host : (r : Registers) (e : Enables) → goodOf r ≡ true → goodOf (hostOf r e .registers) ≡ true
 
 -- what is written to one word of an entry leaves the two others as they were
 pub record OtherWords : Type 0 where

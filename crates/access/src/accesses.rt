@@ -1,80 +1,113 @@
 // A register access, SCTRCLR and the host's event.
 ghost use mathlib.Core.Path.{_≡_};
-ghost use Rattle.bits.specs.Words.{joined, without};
 ghost use Rattle.machine.specs.Answers.{answeredClear};
-ghost use Rattle.access.specs.Accesses.{operatedOf, grantedOf, unlessRefused, accessTo, accessOf, focusOf, sctrclrOf, hostOf};
-ghost use Rattle.access.specs.Writes.{writeOf};
-use crate::Operation;
+ghost use Rattle.access.specs.Accesses.{isRead, operandOf, writeOf, operatedOf, grantedOf, unlessRefused, accessTo, accessOf, focusOf, sctrclrOf, hostOf};
 use crate::readings::reading;
-use crate::writes::write;
-use csr::Register;
-use csr::Target;
+use crate::writes::effect_written;
+use crate::writes::registers_written;
+use csr::Csr;
 use csr::numbers::meant;
 use csr::numbers::register;
+use csr::steps::facts_of;
 use csr::steps::refusal;
+use csr::steps::sctrclr_facts;
 use csr::steps::selection;
-use csr::steps::target;
+use machine::CsrAccess;
 use machine::Decision;
+use machine::Enables;
 use machine::Entry;
+use machine::Operation;
 use machine::Registers;
+use machine::Verdict;
 use machine::answers::answer;
 use machine::answers::answer_clear;
+use machine::answers::is_accepted;
+use machine::answers::number;
 use machine::answers::refuse;
 use machine::regs::physical;
-use machine::regs::with_stateen;
+use machine::regs::with_enables;
 
-fn set(r: Registers, old: Entry, g: Register, v: u64, x: u64) -> Decision
-    ensures { λ d. ⌜ d ≡ writeOf r old g v (joined v x) ⌝ }
-{
-    write(r, old, g, v, bits::join(v, x))
-}
-
-fn clear(r: Registers, old: Entry, g: Register, v: u64, x: u64) -> Decision
-    ensures { λ d. ⌜ d ≡ writeOf r old g v (without v x) ⌝ }
-{
-    write(r, old, g, v, bits::strip(v, x))
-}
-
-fn operated(r: Registers, old: Entry, g: Register, o: Operation, v: u64, x: u64) -> Decision
-    ensures { λ d. ⌜ d ≡ operatedOf r old g o v x ⌝ }
+fn is_read(o: Operation) -> bool
+    ensures { λ b. ⌜ b ≡ isRead o ⌝ }
 {
     match o {
-        Operation::Read => answer(r, v),
-        Operation::Write => write(r, old, g, v, x),
-        Operation::Set => set(r, old, g, v, x),
-        Operation::Clear => clear(r, old, g, v, x),
+        Operation::Read => true,
+        Operation::Write => false,
+        Operation::Set => false,
+        Operation::Clear => false,
     }
 }
 
-fn granted(r: Registers, old: Entry, g: Register, o: Operation, x: u64) -> Decision
+// What an operation writes, given the old reading.
+fn operand(o: Operation, v: u64, x: u64) -> u64
+    ensures { λ y. ⌜ y ≡ operandOf o v x ⌝ }
+{
+    match o {
+        Operation::Read => v,
+        Operation::Write => x,
+        Operation::Set => bits::join(v, x),
+        Operation::Clear => bits::strip(v, x),
+    }
+}
+
+// A register is written.
+fn write(r: Registers, old: Entry, g: Csr, v: u64, x: u64) -> Decision
+    ensures { λ d. ⌜ d ≡ writeOf r old g v x ⌝ }
+{
+    Decision {
+        number: number(Verdict::Accepted),
+        value: v,
+        registers: registers_written(r, g, x),
+        effect: effect_written(r, old, g, x),
+    }
+}
+
+fn write_operand(r: Registers, old: Entry, g: Csr, o: Operation, v: u64, x: u64) -> Decision
+    ensures { λ d. ⌜ d ≡ writeOf r old g v (operandOf o v x) ⌝ }
+{
+    write(r, old, g, v, operand(o, v, x))
+}
+
+fn operated(r: Registers, old: Entry, g: Csr, o: Operation, v: u64, x: u64) -> Decision
+    ensures { λ d. ⌜ d ≡ operatedOf r old g o v x ⌝ }
+{
+    if is_read(o) {
+        answer(r, v)
+    } else {
+        write_operand(r, old, g, o, v, x)
+    }
+}
+
+fn granted(r: Registers, old: Entry, g: Csr, o: Operation, x: u64) -> Decision
     ensures { λ d. ⌜ d ≡ grantedOf r old g o x ⌝ }
 {
     operated(r, old, g, o, reading(r, old, g), x)
 }
 
-// Granted, unless a step gave its number.
-fn grant(n: u64, r: Registers, old: Entry, g: Register, o: Operation, x: u64) -> Decision
-    ensures { λ d. ⌜ d ≡ unlessRefused n r (grantedOf r old g o x) ⌝ }
+// Granted, unless the steps refuse.
+fn grant(v: Verdict, r: Registers, old: Entry, g: Csr, o: Operation, x: u64) -> Decision
+    ensures { λ d. ⌜ d ≡ unlessRefused v r (grantedOf r old g o x) ⌝ }
 {
-    if n == 0 {
+    if is_accepted(v) {
         granted(r, old, g, o, x)
     } else {
-        refuse(r, n)
+        refuse(r, v)
     }
 }
 
-fn access_register(r: Registers, old: Entry, g: Register, o: Operation, x: u64) -> Decision
+fn access_register(r: Registers, old: Entry, g: Csr, o: Operation, x: u64) -> Decision
     ensures { λ d. ⌜ d ≡ accessTo r old g o x ⌝ }
 {
     let m = r.mode;
-    grant(refusal(r, target(r, g)), r, old, meant(m, g), o, x)
+    grant(refusal(r, facts_of(r, g)), r, old, meant(m, g), o, x)
 }
 
 // An access to a CSR number, given the entry in focus.
-pub fn access(r: Registers, old: Entry, o: Operation, number: u64, x: u64) -> Decision
-    ensures { λ d. ⌜ d ≡ accessOf r old o number x ⌝ }
+pub fn access(r: Registers, old: Entry, a: CsrAccess) -> Decision
+    ensures { λ d. ⌜ d ≡ accessOf r old a ⌝ }
 {
-    access_register(r, old, register(number), o, x)
+    let o = a.operation;
+    access_register(r, old, register(a.number), o, a.operand)
 }
 
 // The physical entry that an access is about.
@@ -82,37 +115,31 @@ pub fn focus(r: Registers, number: u64) -> u64
     ensures { λ p. ⌜ p ≡ focusOf r number ⌝ }
 {
     let m = r.mode;
-    let s = selection(r, meant(m, register(number)));
-    physical(r.sctrdepth, r.wrptr, bits::low(s, 8))
+    let s = r.selects;
+    let i = selection(s, meant(m, register(number)));
+    physical(r.buffer.code, r.buffer.wrptr, bits::low(i, 8))
 }
 
-// All entries cleared, unless a step gave its number.
-fn grant_clear(n: u64, r: Registers) -> Decision
-    ensures { λ d. ⌜ d ≡ unlessRefused n r (answeredClear r) ⌝ }
+// All entries cleared, unless the steps refuse.
+fn grant_clear(v: Verdict, r: Registers) -> Decision
+    ensures { λ d. ⌜ d ≡ unlessRefused v r (answeredClear r) ⌝ }
 {
-    if n == 0 {
+    if is_accepted(v) {
         answer_clear(r)
     } else {
-        refuse(r, n)
+        refuse(r, v)
     }
 }
 
 pub fn sctrclr(r: Registers) -> Decision
     ensures { λ d. ⌜ d ≡ sctrclrOf r ⌝ }
 {
-    let t = Target {
-        unlisted: false,
-        mctrctl: false,
-        hypervisors: false,
-        gated: true,
-        outside: false,
-    };
-    grant_clear(refusal(r, t), r)
+    grant_clear(refusal(r, sctrclr_facts()), r)
 }
 
 // The host sets the two state-enable bits.
-pub fn host(r: Registers, m: bool, h: bool) -> Decision
-    ensures { λ d. ⌜ d ≡ hostOf r m h ⌝ }
+pub fn host(r: Registers, e: Enables) -> Decision
+    ensures { λ d. ⌜ d ≡ hostOf r e ⌝ }
 {
-    answer(with_stateen(r, m, h), 0)
+    answer(with_enables(r, e), 0)
 }

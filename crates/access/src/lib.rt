@@ -2,10 +2,3 @@
 pub mod accesses;
 pub mod readings;
 pub mod writes;
-
-pub enum Operation {
-    Read,
-    Write,
-    Set,
-    Clear,
-}

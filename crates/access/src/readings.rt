@@ -1,10 +1,15 @@
 // What the registers read as.
 ghost use mathlib.Core.Path.{_≡_};
-ghost use Rattle.access.specs.Readings.{frozenBit, statusOf, wordOf, isEntry, entryReading, readingOf};
-use csr::Register;
+ghost use Rattle.access.specs.Readings.{frozenBit, statusOf, storedOf, wordOf, isEntry, entryReading, controlReading, readingOf};
+use csr::Csr;
+use csr::View;
+use csr::steps::select;
+use machine::Buffer;
+use machine::ControlWords;
 use machine::Entry;
 use machine::Registers;
 use machine::controls::SCTRCTL_MASK;
+use machine::entries::defined;
 use machine::regs::in_depth;
 
 // FROZEN at its place in sctrstatus.
@@ -15,55 +20,70 @@ fn frozen_bit(frozen: bool) -> u64
 }
 
 // sctrstatus as it reads.
-pub fn status(r: Registers) -> u64
-    ensures { λ x. ⌜ x ≡ statusOf r ⌝ }
+pub fn status(b: Buffer) -> u64
+    ensures { λ x. ⌜ x ≡ statusOf b ⌝ }
 {
-    bits::low(r.wrptr, 8) + frozen_bit(r.frozen)
+    bits::low(b.wrptr, 8) + frozen_bit(b.frozen)
 }
 
-// Word k of an entry.
-fn word(e: Entry, k: u64) -> u64
-    ensures { λ x. ⌜ x ≡ wordOf e k ⌝ }
+// Word k of an entry as it is stored.
+fn stored(e: Entry, k: u64) -> u64
+    ensures { λ x. ⌜ x ≡ storedOf e k ⌝ }
 {
     match k {
         0 => e.ctrsource,
-        1 => bits::clear_bit0(e.ctrtarget),
-        2 => bits::low(e.ctrdata, 4),
-        _ => 0,
+        1 => e.ctrtarget,
+        _ => e.ctrdata,
     }
 }
 
-// Whether a selection of the window is an entry at the current depth.
-pub fn is_entry(r: Registers, selection: u64) -> bool
-    ensures { λ b. ⌜ b ≡ isEntry r selection ⌝ }
+// Word k of an entry as it reads.
+fn word(e: Entry, k: u64) -> u64
+    ensures { λ x. ⌜ x ≡ wordOf e k ⌝ }
 {
-    in_depth(bits::low(selection, 8), r.sctrdepth)
+    defined(k, stored(e, k))
 }
 
-fn entry_word(r: Registers, selection: u64, old: Entry, k: u64) -> u64
-    ensures { λ x. ⌜ x ≡ entryReading r selection old k ⌝ }
+// Whether a selection of the window is an entry at the current depth.
+pub fn is_entry(b: Buffer, selection: u64) -> bool
+    ensures { λ x. ⌜ x ≡ isEntry b selection ⌝ }
 {
-    if is_entry(r, selection) {
+    in_depth(bits::low(selection, 8), b.code)
+}
+
+fn entry_word(b: Buffer, selection: u64, old: Entry, k: u64) -> u64
+    ensures { λ x. ⌜ x ≡ entryReading b selection old k ⌝ }
+{
+    if is_entry(b, selection) {
         word(old, k)
     } else {
         0
     }
 }
 
+fn control_reading(c: ControlWords, v: View) -> u64
+    ensures { λ x. ⌜ x ≡ controlReading c v ⌝ }
+{
+    match v {
+        View::Machine => c.mctrctl,
+        View::Supervisor => bits::masked(c.mctrctl, SCTRCTL_MASK),
+        View::Guest => c.vsctrctl,
+    }
+}
+
 // What a register reads as.
-pub fn reading(r: Registers, old: Entry, g: Register) -> u64
+pub fn reading(r: Registers, old: Entry, g: Csr) -> u64
     ensures { λ x. ⌜ x ≡ readingOf r old g ⌝ }
 {
+    let c = r.controls;
+    let b = r.buffer;
+    let s = r.selects;
     match g {
-        Register::Mctrctl => r.mctrctl,
-        Register::Sctrctl => bits::masked(r.mctrctl, SCTRCTL_MASK),
-        Register::Vsctrctl => r.vsctrctl,
-        Register::Sctrdepth => r.sctrdepth,
-        Register::Sctrstatus => status(r),
-        Register::Siselect => r.siselect,
-        Register::Vsiselect => r.vsiselect,
-        Register::Sireg(k) => entry_word(r, r.siselect, old, k),
-        Register::Vsireg(k) => entry_word(r, r.vsiselect, old, k),
-        Register::Unlisted => 0,
+        Csr::Control(v) => control_reading(c, v),
+        Csr::Select(v) => select(s, v),
+        Csr::Ireg(v, k) => entry_word(b, select(s, v), old, k),
+        Csr::Depth => b.code,
+        Csr::Status => status(b),
+        Csr::Unlisted => 0,
     }
 }

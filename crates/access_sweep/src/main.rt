@@ -2,13 +2,26 @@
 // many states, bad ones among them, and prints how often each number was answered and digests of
 // answers, registers and entries. The gate compares it with what the model prints.
 use libc::STDOUT_FILENO;
+use machine::Buffer;
+use machine::ControlWords;
+use machine::CsrAccess;
 use machine::Decision;
 use machine::Effect;
+use machine::Enables;
 use machine::Entry;
 use machine::Mode;
 use machine::Registers;
+use machine::Selects;
+use machine::Verdict;
+use machine::answers::number_place;
+use machine::answers::refuse;
 use machine::controls::MCTRCTL_MASK;
 use machine::controls::SCTRCTL_MASK;
+use machine::regs::with_buffer;
+use machine::regs::with_controls;
+use machine::regs::with_enables;
+use machine::regs::with_mode;
+use machine::regs::with_selects;
 use sweep_support::codes::operation_of;
 use sweep_support::digests::digest_answer;
 use sweep_support::digests::digest_entry;
@@ -94,8 +107,10 @@ fn after(old: Entry, effect: Effect) -> Entry {
 
 fn tallied(run: Run, d: Decision) -> Run {
     let mut next = run;
-    let k = (d.number % 6) as usize;
-    next.counts[k] = std::num::wrapping_add_u64(next.counts[k], 1);
+    let k = number_place(d.number) as usize;
+    if k < 6 {
+        next.counts[k] = std::num::wrapping_add_u64(next.counts[k], 1);
+    }
     next.answers = digest_answer(next.answers, d.number, d.value);
     let r = d.registers;
     next.registers = digest_registers(next.registers, r);
@@ -130,13 +145,14 @@ fn accessed(run: Run, r: Registers, number: u64, operation: u64) -> Run {
     next.random = c;
     next.last = e;
     if machine::regs::is_good(r) {
-        let o = operation_of(operation);
-        tallied(
-            next,
-            access::accesses::access(r, e, o, number, operand_of(x)),
-        )
+        let access = CsrAccess {
+            operation: operation_of(operation),
+            number,
+            operand: operand_of(x),
+        };
+        tallied(next, access::accesses::access(r, e, access))
     } else {
-        tallied(next, machine::answers::refuse(r, 5))
+        tallied(next, refuse(r, Verdict::BadState))
     }
 }
 
@@ -163,23 +179,25 @@ fn others(run: Run, r: Registers) -> Run {
     let x = run.random;
     if machine::regs::is_good(r) {
         let next = tallied(run, access::accesses::sctrclr(r));
-        tallied(
-            next,
-            access::accesses::host(r, bits::bit(x, 0), bits::bit(x, 1)),
-        )
+        let enables = Enables {
+            mstateen0: bits::bit(x, 0),
+            hstateen0: bits::bit(x, 1),
+        };
+        tallied(next, access::accesses::host(r, enables))
     } else {
-        let next = tallied(run, machine::answers::refuse(r, 5));
-        tallied(next, machine::answers::refuse(r, 5))
+        let next = tallied(run, refuse(r, Verdict::BadState));
+        tallied(next, refuse(r, Verdict::BadState))
     }
 }
 
 fn selected(r: Registers, j: usize, s: u64) -> Registers {
-    let mut q = r;
     let a = j % 13;
     let b = ((2 * (j as u64 % 13) + s % 13) % 13) as usize;
-    q.siselect = SELECTIONS[a];
-    q.vsiselect = SELECTIONS[b];
-    q
+    let selects = Selects {
+        siselect: SELECTIONS[a],
+        vsiselect: SELECTIONS[b],
+    };
+    with_selects(r, selects)
 }
 
 // All selections.
@@ -196,8 +214,11 @@ fn windowed(run: Run, r: Registers, s: u64) -> Run {
 fn enabled(run: Run, r: Registers, s: u64) -> Run {
     let mut next = run;
     for e in 0u64..4 {
-        let q = machine::regs::with_stateen(r, e % 2 == 1, e / 2 == 1);
-        next = windowed(next, q, s);
+        let enables = Enables {
+            mstateen0: e % 2 == 1,
+            hstateen0: e / 2 == 1,
+        };
+        next = windowed(next, with_enables(r, enables), s);
     }
     next
 }
@@ -230,18 +251,19 @@ fn swept_state(run: Run, mode: Mode, s: u64) -> Run {
     let c = xorshift64(b);
     let mut next = run;
     next.random = c;
-    let r = Registers {
-        mode,
+    let controls = ControlWords {
         mctrctl: mctrctl_of(s, a),
         vsctrctl: vsctrctl_of(s, b),
-        sctrdepth: s % 5,
+    };
+    let buffer = Buffer {
+        code: s % 5,
         wrptr: wrptr_of(s, c),
         frozen: s % 2 == 1,
-        siselect: 0,
-        vsiselect: 0,
-        mstateen0: false,
-        hstateen0: false,
     };
+    let r = with_mode(
+        with_buffer(with_controls(machine::regs::reset(), controls), buffer),
+        mode,
+    );
     enabled(next, r, s)
 }
 

@@ -6,16 +6,17 @@ use Prim.Native.Nat.{ℕ, _-_, _≤_, _<_}
 use native.Mathlib.Omega.{arith}
 use borrow.Author.Tests.{ne-eqb, le-leb, lt-leb}
 use Rattle.csr.specs.Numbers.{supervisorRegister, guestRegister, registerOf}
-use Rattle.csr.specs.declared.Register.{Register}
-use Rattle.csr.specs.declared.Register.the-variants.{Sireg, Vsireg, Unlisted}
+use Rattle.csr.specs.declared.View.the-variants.{Supervisor, Guest}
+use Rattle.csr.specs.declared.Csr.{Csr}
+use Rattle.csr.specs.declared.Csr.the-variants.{Ireg, Unlisted}
 
 module _ (n : ℕ) where
-  pub sireg-low : 0x151 ≤ n → n ≤ 0x153 → Sireg (n - 0x151) ≡ supervisorRegister n
+  pub sireg-low : 0x151 ≤ n → n ≤ 0x153 → Ireg Supervisor (n - 0x151) ≡ supervisorRegister n
   unfolding supervisorRegister
   sireg-low h k =
       simp (ne-eqb n 0x14E (omega arith), ne-eqb n 0x14F (omega arith), ne-eqb n 0x150 (omega arith), le-leb 0x151 n h, le-leb n 0x153 k)
 
-  pub sireg-high : 0x155 ≤ n → n ≤ 0x157 → Sireg (n - 0x152) ≡ supervisorRegister n
+  pub sireg-high : 0x155 ≤ n → n ≤ 0x157 → Ireg Supervisor (n - 0x152) ≡ supervisorRegister n
   unfolding supervisorRegister
   sireg-high h k =
       simp (
@@ -57,11 +58,11 @@ module _ (n : ℕ) where
         ne-eqb n 0x15F k,
       )
 
-  pub vsireg-low : 0x251 ≤ n → n ≤ 0x253 → Vsireg (n - 0x251) ≡ guestRegister n
+  pub vsireg-low : 0x251 ≤ n → n ≤ 0x253 → Ireg Guest (n - 0x251) ≡ guestRegister n
   unfolding guestRegister
   vsireg-low h k = simp (ne-eqb n 0x24E (omega arith), ne-eqb n 0x250 (omega arith), le-leb 0x251 n h, le-leb n 0x253 k)
 
-  pub vsireg-high : 0x255 ≤ n → n ≤ 0x257 → Vsireg (n - 0x252) ≡ guestRegister n
+  pub vsireg-high : 0x255 ≤ n → n ≤ 0x257 → Ireg Guest (n - 0x252) ≡ guestRegister n
   unfolding guestRegister
   vsireg-high h k =
       simp (
@@ -92,11 +93,11 @@ module _ (n : ℕ) where
         and-false,
       )
 
-  pub supervisors : (g : Register) → g ≡ supervisorRegister n → n ≤ 0x1FF → g ≡ registerOf n
+  pub supervisors : (g : Csr) → g ≡ supervisorRegister n → n ≤ 0x1FF → g ≡ registerOf n
   unfolding registerOf
   supervisors g p k = simp (le-leb 0 n (omega arith), le-leb n 0x1FF k) p
 
-  pub guests : (g : Register) → g ≡ guestRegister n → 0x200 ≤ n → n ≤ 0x2FF → g ≡ registerOf n
+  pub guests : (g : Csr) → g ≡ guestRegister n → 0x200 ≤ n → n ≤ 0x2FF → g ≡ registerOf n
   unfolding registerOf
   guests g p h k = simp (lt-leb n 0x1FF (omega arith), and-false, le-leb 0x200 n h, le-leb n 0x2FF k) p
 

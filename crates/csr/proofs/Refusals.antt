@@ -1,64 +1,51 @@
--- What `Refusals` states, by cases of the mode and of what the steps ask. Assumes nothing.
-use mathlib.Core.Path.{refl}
-use mathlib.Core.Bool.{Bool, true, false, and-false}
+-- What `Refusals` states, by cases of which steps apply. Assumes nothing.
+use mathlib.Core.Path.{_≡_, refl}
+use mathlib.Core.Bool.{Bool, true, false, not, and-false, _&&_, _||_}
+use Prim.Native.Nat.{_≤_}
 use native.Mathlib.Omega.{arith}
-use Rattle.machine.specs.declared.Mode.{Mode}
-use Rattle.machine.specs.declared.Mode.the-variants.{U, S, M, VU, VS}
+use lib.Dec.{eqb}
+use Rattle.machine.specs.Answers.{numberOf}
+use Rattle.machine.specs.Modes.{isVU}
 use Rattle.machine.specs.declared.Registers.{Registers}
-use Rattle.csr.specs.Numbers.{meantOf}
-use Rattle.csr.specs.Steps.{gatedOf, outsideOf, targetOf, step2, step3, step5, firstStep, refusalOf}
+use Rattle.csr.specs.Numbers.{viewIn}
+use Rattle.csr.specs.Steps.{factsOf, step2, step3, step5, firstStep, refusalOf}
 use Rattle.csr.specs.Refusals.{Refusals, Selects}
-use Rattle.csr.specs.declared.Target.{Target}
+use Rattle.csr.specs.declared.Facts.{Facts}
 
--- the registers and the target of these parts
-abbrev with : Registers → Mode → Bool → Bool → Registers
-with r mode m h =
-    record { mode = mode; mctrctl = r .mctrctl; vsctrctl = r .vsctrctl; sctrdepth = r .sctrdepth; wrptr = r .wrptr; frozen = r .frozen; siselect = r .siselect; vsiselect = r .vsiselect; mstateen0 = m; hstateen0 = h }
+-- numbers 1, 2 and 3 by which of the six steps apply
+abbrev one : Bool → Bool → Bool → Bool
+one a b c = not a && (b || c)
 
-abbrev asked : Bool → Bool → Bool → Bool → Bool → Target
-asked u a b g o = record { unlisted = u; mctrctl = a; hypervisors = b; gated = g; outside = o }
+abbrev two : Bool → Bool → Bool → Bool → Bool → Bool
+two a b c d e = not a && (not (one a b c) && (d || e))
 
-cases : (r : Registers) (mode : Mode) (u a b g o m h : Bool) → Refusals (with r mode m h) (asked u a b g o)
-unfolding refusalOf firstStep step2 step3 step5
-cases r U true a b g o m h = record { illegal = refl; virtual = refl; missing = refl; no-other = omega arith }
-cases r S true a b g o m h = record { illegal = refl; virtual = refl; missing = refl; no-other = omega arith }
-cases r M true a b g o m h = record { illegal = refl; virtual = refl; missing = refl; no-other = omega arith }
-cases r VU true a b g o m h = record { illegal = refl; virtual = refl; missing = refl; no-other = omega arith }
-cases r VS true a b g o m h = record { illegal = refl; virtual = refl; missing = refl; no-other = omega arith }
-cases r U false a b g o m h = record { illegal = refl; virtual = refl; missing = refl; no-other = omega arith }
-cases r M false true b g true m h = record { illegal = refl; virtual = refl; missing = refl; no-other = omega arith }
-cases r M false true b g false m h = record { illegal = refl; virtual = refl; missing = refl; no-other = omega arith }
-cases r M false false b g true m h = record { illegal = refl; virtual = refl; missing = refl; no-other = omega arith }
-cases r M false false b g false m h = record { illegal = refl; virtual = refl; missing = refl; no-other = omega arith }
-cases r S false true b g o m h = record { illegal = refl; virtual = refl; missing = refl; no-other = omega arith }
-cases r S false false b true o false h = record { illegal = refl; virtual = refl; missing = refl; no-other = omega arith }
-cases r S false false b false true false h = record { illegal = refl; virtual = refl; missing = refl; no-other = omega arith }
-cases r S false false b g true true h = record { illegal = refl; virtual = refl; missing = refl; no-other = omega arith }
-cases r S false false b false false false h = record { illegal = refl; virtual = refl; missing = refl; no-other = omega arith }
-cases r S false false b g false true h = record { illegal = refl; virtual = refl; missing = refl; no-other = omega arith }
-cases r VU false true b g o m h = record { illegal = refl; virtual = refl; missing = refl; no-other = omega arith }
-cases r VU false false b true o false h = record { illegal = refl; virtual = refl; missing = refl; no-other = omega arith }
-cases r VU false false b false o false h = record { illegal = refl; virtual = refl; missing = refl; no-other = omega arith }
-cases r VU false false b g o true h = record { illegal = refl; virtual = refl; missing = refl; no-other = omega arith }
-cases r VS false true b g o m h = record { illegal = refl; virtual = refl; missing = refl; no-other = omega arith }
-cases r VS false false b true o false h = record { illegal = refl; virtual = refl; missing = refl; no-other = omega arith }
-cases r VS false false true false o false h = record { illegal = refl; virtual = refl; missing = refl; no-other = omega arith }
-cases r VS false false false false true false true = record { illegal = refl; virtual = refl; missing = refl; no-other = omega arith }
-cases r VS false false false false false false true = record { illegal = refl; virtual = refl; missing = refl; no-other = omega arith }
-cases r VS false false false false true false false = record { illegal = refl; virtual = refl; missing = refl; no-other = omega arith }
-cases r VS false false false false false false false = record { illegal = refl; virtual = refl; missing = refl; no-other = omega arith }
-cases r VS false false true g o true h = record { illegal = refl; virtual = refl; missing = refl; no-other = omega arith }
-cases r VS false false false true o true false = record { illegal = refl; virtual = refl; missing = refl; no-other = omega arith }
-cases r VS false false false false true true false = record { illegal = refl; virtual = refl; missing = refl; no-other = omega arith }
-cases r VS false false false g true true true = record { illegal = refl; virtual = refl; missing = refl; no-other = omega arith }
-cases r VS false false false false false true false = record { illegal = refl; virtual = refl; missing = refl; no-other = omega arith }
-cases r VS false false false g false true true = record { illegal = refl; virtual = refl; missing = refl; no-other = omega arith }
+abbrev three : Bool → Bool → Bool → Bool → Bool → Bool → Bool
+three a b c d e f = a || (not (one a b c) && (not (two a b c d e) && f))
 
-pub refusals : (r : Registers) (t : Target) → Refusals r t
-refusals r t = cases r (r .mode) (t .unlisted) (t .mctrctl) (t .hypervisors) (t .gated) (t .outside) (r .mstateen0) (r .hstateen0)
+record Cases (a b c d e f : Bool) : Type 0 where
+  illegal : eqb (numberOf (firstStep a b c d e f)) 1 ≡ one a b c
+  virtual : eqb (numberOf (firstStep a b c d e f)) 2 ≡ two a b c d e
+  missing : eqb (numberOf (firstStep a b c d e f)) 3 ≡ three a b c d e f
+  no-other : numberOf (firstStep a b c d e f) ≤ 3
+
+cases : (a b c d e f : Bool) → Cases a b c d e f
+unfolding firstStep
+cases true b c d e f = record { illegal = refl; virtual = refl; missing = refl; no-other = omega arith }
+cases false true c d e f = record { illegal = refl; virtual = refl; missing = refl; no-other = omega arith }
+cases false false true d e f = record { illegal = refl; virtual = refl; missing = refl; no-other = omega arith }
+cases false false false true e f = record { illegal = refl; virtual = refl; missing = refl; no-other = omega arith }
+cases false false false false true f = record { illegal = refl; virtual = refl; missing = refl; no-other = omega arith }
+cases false false false false false true = record { illegal = refl; virtual = refl; missing = refl; no-other = omega arith }
+cases false false false false false false = record { illegal = refl; virtual = refl; missing = refl; no-other = omega arith }
+
+pub refusals : (r : Registers) (f : Facts) → Refusals r f
+unfolding refusalOf step2 step3 step5
+refusals r f =
+    let c = cases (f .unlisted) (step2 r f) (step3 r f) (isVU (r .mode)) (step5 r f) (f .outside) in
+    record { illegal = c .illegal; virtual = c .virtual; missing = c .missing; no-other = c .no-other }
 
 pub selects : (r : Registers) → Selects r
-unfolding refusalOf firstStep step2 step3 step5 targetOf gatedOf outsideOf meantOf
+unfolding refusalOf firstStep step2 step3 step5 factsOf viewIn
 selects r =
     record {
       from-S = (λ e. (simp (e, and-false), simp (e, and-false)));

@@ -4,130 +4,89 @@ use mathlib.Core.Bool.{Bool, true, false, not, _&&_, _||_}
 use Rattle.bits.specs.Choice.{if_then_else_}
 use Rattle.machine.specs.Modes.{isU, isM, isVU, isVS}
 use Rattle.machine.specs.declared.Registers.{Registers}
-use Rattle.csr.specs.Numbers.{inRange, meantOf}
-use Rattle.csr.specs.declared.Register.{Register}
-use Rattle.csr.specs.declared.Register.the-variants.{Mctrctl, Sctrctl, Vsctrctl, Sctrdepth, Sctrstatus, Siselect, Vsiselect, Sireg, Vsireg, Unlisted}
-use Rattle.csr.specs.declared.Target.{Target}
+use Rattle.machine.specs.declared.Selects.{Selects}
+use Rattle.machine.specs.declared.Verdict.{Verdict}
+use Rattle.machine.specs.declared.Verdict.the-variants.{Accepted, IllegalInstruction, VirtualInstruction, NoSuchRegister}
+use Rattle.csr.specs.Numbers.{inRange, viewIn}
+use Rattle.csr.specs.declared.View.{View}
+use Rattle.csr.specs.declared.View.the-variants.{Machine, Supervisor, Guest}
+use Rattle.csr.specs.declared.Csr.{Csr}
+use Rattle.csr.specs.declared.Csr.the-variants.{Control, Select, Ireg, Depth, Status, Unlisted}
+use Rattle.csr.specs.declared.Facts.{Facts}
 
--- the select register behind an entry register, as a register means in its mode; 0 for a register without one
-abbrev pub selectionOf : Registers → Register → ℕ
-selectionOf r (Sireg k) = r .siselect
-selectionOf r (Vsireg k) = r .vsiselect
-selectionOf r Mctrctl = 0
-selectionOf r Sctrctl = 0
-selectionOf r Vsctrctl = 0
-selectionOf r Sctrdepth = 0
-selectionOf r Sctrstatus = 0
-selectionOf r Siselect = 0
-selectionOf r Vsiselect = 0
-selectionOf r Unlisted = 0
+-- the select register of a view. M's, miselect, is not modelled: no number reaches it
+abbrev pub selectOf : Selects → View → ℕ
+selectOf s Machine = 0
+selectOf s Supervisor = s .siselect
+selectOf s Guest = s .vsiselect
+
+-- the selection of an ireg, as a register means in its mode; 0 for a register without one
+abbrev pub selectionOf : Selects → Csr → ℕ
+selectionOf s (Ireg v k) = selectOf s v
+selectionOf s (Control v) = 0
+selectionOf s (Select v) = 0
+selectionOf s Depth = 0
+selectionOf s Status = 0
+selectionOf s Unlisted = 0
 
 -- the window of selections that reach entries
 unfoldable pub inWindow : ℕ → Bool
 inWindow s = inRange 0x200 0x2FF s
 
--- whether the state enables gate a register: sctrctl, vsctrctl, sctrdepth, sctrstatus, or an ireg whose selection lies in the
--- window
-unfoldable pub gatedOf : Registers → Register → Bool
-gatedOf r Sctrctl = true
-gatedOf r Vsctrctl = true
-gatedOf r Sctrdepth = true
-gatedOf r Sctrstatus = true
-gatedOf r (Sireg k) = inWindow (r .siselect)
-gatedOf r (Vsireg k) = inWindow (r .vsiselect)
-gatedOf r Mctrctl = false
-gatedOf r Siselect = false
-gatedOf r Vsiselect = false
-gatedOf r Unlisted = false
+abbrev pub isMachine : View → Bool
+isMachine Machine = true
+isMachine Supervisor = false
+isMachine Guest = false
 
--- whether a register is an ireg whose selection is outside the window
-unfoldable pub outsideOf : Registers → Register → Bool
-outsideOf r (Sireg k) = not (inWindow (r .siselect))
-outsideOf r (Vsireg k) = not (inWindow (r .vsiselect))
-outsideOf r Mctrctl = false
-outsideOf r Sctrctl = false
-outsideOf r Vsctrctl = false
-outsideOf r Sctrdepth = false
-outsideOf r Sctrstatus = false
-outsideOf r Siselect = false
-outsideOf r Vsiselect = false
-outsideOf r Unlisted = false
+abbrev pub isGuest : View → Bool
+isGuest Machine = false
+isGuest Supervisor = false
+isGuest Guest = true
 
--- the registers that VS may not reach, by the number itself
-abbrev pub isHypervisors : Register → Bool
-isHypervisors Vsctrctl = true
-isHypervisors Sctrdepth = true
-isHypervisors Vsiselect = true
-isHypervisors (Vsireg k) = true
-isHypervisors Mctrctl = false
-isHypervisors Sctrctl = false
-isHypervisors Sctrstatus = false
-isHypervisors Siselect = false
-isHypervisors (Sireg k) = false
-isHypervisors Unlisted = false
+abbrev pub facts : Bool → Bool → Bool → Bool → Bool → Facts
+facts unlisted machine barred gated outside =
+    record { unlisted = unlisted; machine = machine; barred = barred; gated = gated; outside = outside }
 
-abbrev pub isUnlisted : Register → Bool
-isUnlisted Unlisted = true
-isUnlisted Mctrctl = false
-isUnlisted Sctrctl = false
-isUnlisted Vsctrctl = false
-isUnlisted Sctrdepth = false
-isUnlisted Sctrstatus = false
-isUnlisted Siselect = false
-isUnlisted Vsiselect = false
-isUnlisted (Sireg k) = false
-isUnlisted (Vsireg k) = false
-
-abbrev pub isMctrctl : Register → Bool
-isMctrctl Mctrctl = true
-isMctrctl Sctrctl = false
-isMctrctl Vsctrctl = false
-isMctrctl Sctrdepth = false
-isMctrctl Sctrstatus = false
-isMctrctl Siselect = false
-isMctrctl Vsiselect = false
-isMctrctl (Sireg k) = false
-isMctrctl (Vsireg k) = false
-isMctrctl Unlisted = false
-
--- what the steps ask of a register: by its number, and by what it means in the mode
-unfoldable pub targetOf : Registers → Register → Target
-targetOf r g =
-    record {
-      unlisted = isUnlisted g;
-      mctrctl = isMctrctl g;
-      hypervisors = isHypervisors g;
-      gated = gatedOf r (meantOf (r .mode) g);
-      outside = outsideOf r (meantOf (r .mode) g);
-    }
+-- what the steps ask of a register: whether its number is unlisted; whether it is M's alone; whether VS may not reach it, by the
+-- number itself; whether the state enables gate it: sctrctl, vsctrctl, sctrdepth, sctrstatus, or an ireg whose selection lies in
+-- the window; whether it is an ireg whose selection is outside the window
+unfoldable pub factsOf : Registers → Csr → Facts
+factsOf r (Control v) = facts false (isMachine v) (isGuest v) (not (isMachine v)) false
+factsOf r (Select v) = facts false (isMachine v) (isGuest v) false false
+factsOf r (Ireg v k) =
+    let in-window = inWindow (selectOf (r .selects) (viewIn (r .mode) v)) in
+    facts false (isMachine v) (isGuest v) in-window (not in-window)
+factsOf r Depth = facts false false true true false
+factsOf r Status = facts false false false true false
+factsOf r Unlisted = facts true false false false false
 
 -- SCTRCLR is gated, and nothing else is asked of it
-abbrev pub sctrclrTarget : Target
-sctrclrTarget = record { unlisted = false; mctrctl = false; hypervisors = false; gated = true; outside = false }
+abbrev pub sctrclrFacts : Facts
+sctrclrFacts = facts false false false true false
 
--- 2. mctrctl below M; anything from U
-unfoldable pub step2 : Registers → Target → Bool
-step2 r t = isU (r .mode) || (t .mctrctl && not (isM (r .mode)))
+-- 2. a register of M alone below M; anything from U
+unfoldable pub step2 : Registers → Facts → Bool
+step2 r f = isU (r .mode) || (f .machine && not (isM (r .mode)))
 
 -- 3. below M, mstateen0.CTR is 0, and the target is gated
-unfoldable pub step3 : Registers → Target → Bool
-step3 r t = not (isM (r .mode)) && (not (r .mstateen0) && t .gated)
+unfoldable pub step3 : Registers → Facts → Bool
+step3 r f = not (isM (r .mode)) && (not (r .enables .mstateen0) && f .gated)
 
--- 5. from VS a register of the hypervisor's; or hstateen0.CTR is 0, and the target is gated
-unfoldable pub step5 : Registers → Target → Bool
-step5 r t = isVS (r .mode) && (t .hypervisors || (not (r .hstateen0) && t .gated))
+-- 5. from VS a barred register; or hstateen0.CTR is 0, and the target is gated
+unfoldable pub step5 : Registers → Facts → Bool
+step5 r f = isVS (r .mode) && (f .barred || (not (r .enables .hstateen0) && f .gated))
 
--- the number of the first step that applies; 0 where none does
-unfoldable pub firstStep : Bool → Bool → Bool → Bool → Bool → Bool → ℕ
+-- what the first step that applies says; accepted where none does
+unfoldable pub firstStep : Bool → Bool → Bool → Bool → Bool → Bool → Verdict
 firstStep one two three four five six =
-    if one then 3
-    else (if two then 1
-    else (if three then 1
-    else (if four then 2
-    else (if five then 2
-    else (if six then 3
-    else 0)))))
+    if one then NoSuchRegister
+    else (if two then IllegalInstruction
+    else (if three then IllegalInstruction
+    else (if four then VirtualInstruction
+    else (if five then VirtualInstruction
+    else (if six then NoSuchRegister
+    else Accepted)))))
 
--- why an access is refused: 1. unlisted; 2. and 3. as above; 4. from VU; 5. as above; 6. an ireg outside the window
-unfoldable pub refusalOf : Registers → Target → ℕ
-refusalOf r t = firstStep (t .unlisted) (step2 r t) (step3 r t) (isVU (r .mode)) (step5 r t) (t .outside)
+-- what the steps say of an access: 1. unlisted; 2. and 3. as above; 4. from VU; 5. as above; 6. an ireg outside the window
+unfoldable pub refusalOf : Registers → Facts → Verdict
+refusalOf r f = firstStep (f .unlisted) (step2 r f) (step3 r f) (isVU (r .mode)) (step5 r f) (f .outside)

@@ -1,95 +1,82 @@
 // What a CSR number reaches, and what that register means in a mode.
 ghost use mathlib.Core.Path.{_≡_};
 ghost use Rattle.bits.specs.Choice.{if_then_else_};
-ghost use Rattle.machine.specs.Modes.{isVirtual, isVS};
-ghost use Rattle.csr.specs.Numbers.{supervisorRegister, guestRegister, registerOf, meantOf};
-use crate::Register;
+ghost use Rattle.machine.specs.Modes.{isVirtual};
+ghost use Rattle.csr.specs.Numbers.{supervisorRegister, guestRegister, registerOf, viewIn, meantOf};
+use crate::Csr;
+use crate::View;
 use machine::Mode;
 use machine::modes::is_virtual;
-use machine::modes::is_vs;
 
-fn supervisor_register(number: u64) -> Register
+fn supervisor_register(number: u64) -> Csr
     ensures { λ g. ⌜ g ≡ supervisorRegister number ⌝ }
 {
     match number {
-        0x14E => Register::Sctrctl,
-        0x14F => Register::Sctrstatus,
-        0x150 => Register::Siselect,
-        0x151..=0x153 => Register::Sireg(number - 0x151),
-        0x155..=0x157 => Register::Sireg(number - 0x152),
-        0x15F => Register::Sctrdepth,
-        _ => Register::Unlisted,
+        0x14E => Csr::Control(View::Supervisor),
+        0x14F => Csr::Status,
+        0x150 => Csr::Select(View::Supervisor),
+        0x151..=0x153 => Csr::Ireg(View::Supervisor, number - 0x151),
+        0x155..=0x157 => Csr::Ireg(View::Supervisor, number - 0x152),
+        0x15F => Csr::Depth,
+        _ => Csr::Unlisted,
     }
 }
 
-fn guest_register(number: u64) -> Register
+fn guest_register(number: u64) -> Csr
     ensures { λ g. ⌜ g ≡ guestRegister number ⌝ }
 {
     match number {
-        0x24E => Register::Vsctrctl,
-        0x250 => Register::Vsiselect,
-        0x251..=0x253 => Register::Vsireg(number - 0x251),
-        0x255..=0x257 => Register::Vsireg(number - 0x252),
-        _ => Register::Unlisted,
+        0x24E => Csr::Control(View::Guest),
+        0x250 => Csr::Select(View::Guest),
+        0x251..=0x253 => Csr::Ireg(View::Guest, number - 0x251),
+        0x255..=0x257 => Csr::Ireg(View::Guest, number - 0x252),
+        _ => Csr::Unlisted,
     }
 }
 
 // The register of a CSR number.
-pub fn register(number: u64) -> Register
+pub fn register(number: u64) -> Csr
     ensures { λ g. ⌜ g ≡ registerOf number ⌝ }
 {
     match number {
         0..=0x1FF => supervisor_register(number),
         0x200..=0x2FF => guest_register(number),
-        0x34E => Register::Mctrctl,
-        _ => Register::Unlisted,
+        0x34E => Csr::Control(View::Machine),
+        _ => Csr::Unlisted,
     }
 }
 
-fn sctrctl_in(m: Mode) -> Register
-    ensures { λ g. ⌜ g ≡ (if isVS m then Register.Vsctrctl else Register.Sctrctl) ⌝ }
-{
-    if is_vs(m) {
-        Register::Vsctrctl
-    } else {
-        Register::Sctrctl
-    }
-}
-
-fn siselect_in(m: Mode) -> Register
-    ensures { λ g. ⌜ g ≡ (if isVirtual m then Register.Vsiselect else Register.Siselect) ⌝ }
+fn supervisor_in(m: Mode) -> View
+    ensures { λ v. ⌜ v ≡ (if isVirtual m then View.Guest else View.Supervisor) ⌝ }
 {
     if is_virtual(m) {
-        Register::Vsiselect
+        View::Guest
     } else {
-        Register::Siselect
+        View::Supervisor
     }
 }
 
-fn sireg_in(m: Mode, k: u64) -> Register
-    ensures { λ g. ⌜ g ≡ (if isVirtual m then Register.Vsireg k else Register.Sireg k) ⌝ }
+// Whose register is meant in a mode.
+pub fn view_in(m: Mode, v: View) -> View
+    ensures { λ w. ⌜ w ≡ viewIn m v ⌝ }
 {
-    if is_virtual(m) {
-        Register::Vsireg(k)
-    } else {
-        Register::Sireg(k)
+    match v {
+        View::Machine => View::Machine,
+        View::Supervisor => supervisor_in(m),
+        View::Guest => View::Guest,
     }
 }
 
 // What a register means in a mode.
-pub fn meant(m: Mode, g: Register) -> Register
+pub fn meant(m: Mode, g: Csr) -> Csr
     ensures { λ q. ⌜ q ≡ meantOf m g ⌝ }
 {
     match g {
-        Register::Mctrctl => Register::Mctrctl,
-        Register::Sctrctl => sctrctl_in(m),
-        Register::Vsctrctl => Register::Vsctrctl,
-        Register::Sctrdepth => Register::Sctrdepth,
-        Register::Sctrstatus => Register::Sctrstatus,
-        Register::Siselect => siselect_in(m),
-        Register::Vsiselect => Register::Vsiselect,
-        Register::Sireg(k) => sireg_in(m, k),
-        Register::Vsireg(k) => Register::Vsireg(k),
-        Register::Unlisted => Register::Unlisted,
+        Csr::Control(v) => Csr::Control(view_in(m, v)),
+        Csr::Select(v) => Csr::Select(view_in(m, v)),
+        Csr::Ireg(v, k) => Csr::Ireg(view_in(m, v), k),
+        Csr::Depth => Csr::Depth,
+        Csr::Status => Csr::Status,
+        Csr::Unlisted => Csr::Unlisted,
     }
 }

@@ -1,31 +1,42 @@
 // The access steps.
 ghost use mathlib.Core.Path.{_≡_};
-ghost use mathlib.Core.Bool.{not};
-ghost use Rattle.csr.specs.Steps.{selectionOf, inWindow, gatedOf, outsideOf, isHypervisors, isUnlisted, isMctrctl, targetOf, step2, step3, step5, firstStep, refusalOf};
-use crate::Register;
-use crate::Target;
-use crate::numbers::meant;
+ghost use mathlib.Core.Bool.{false, not};
+ghost use Rattle.csr.specs.Numbers.{viewIn};
+ghost use Rattle.csr.specs.Steps.{selectOf, selectionOf, inWindow, isMachine, isGuest, facts, factsOf, sctrclrFacts, step2, step3, step5, firstStep, refusalOf};
+use crate::Csr;
+use crate::Facts;
+use crate::View;
+use crate::numbers::view_in;
 use machine::Registers;
+use machine::Selects;
+use machine::Verdict;
 use machine::modes::is_m;
 use machine::modes::is_u;
 use machine::modes::is_vs;
 use machine::modes::is_vu;
 
-// The select register behind an ireg, or 0.
-pub fn selection(r: Registers, g: Register) -> u64
-    ensures { λ s. ⌜ s ≡ selectionOf r g ⌝ }
+// The select register of a view.
+pub fn select(s: Selects, v: View) -> u64
+    ensures { λ x. ⌜ x ≡ selectOf s v ⌝ }
+{
+    match v {
+        View::Machine => 0,
+        View::Supervisor => s.siselect,
+        View::Guest => s.vsiselect,
+    }
+}
+
+// The selection of an ireg, or 0.
+pub fn selection(s: Selects, g: Csr) -> u64
+    ensures { λ x. ⌜ x ≡ selectionOf s g ⌝ }
 {
     match g {
-        Register::Mctrctl => 0,
-        Register::Sctrctl => 0,
-        Register::Vsctrctl => 0,
-        Register::Sctrdepth => 0,
-        Register::Sctrstatus => 0,
-        Register::Siselect => 0,
-        Register::Vsiselect => 0,
-        Register::Sireg(_) => r.siselect,
-        Register::Vsireg(_) => r.vsiselect,
-        Register::Unlisted => 0,
+        Csr::Control(_) => 0,
+        Csr::Select(_) => 0,
+        Csr::Ireg(v, _) => select(s, v),
+        Csr::Depth => 0,
+        Csr::Status => 0,
+        Csr::Unlisted => 0,
     }
 }
 
@@ -36,194 +47,198 @@ fn in_window(s: u64) -> bool
     0x200 <= s && s <= 0x2FF
 }
 
-fn out_of_window(s: u64) -> bool
-    ensures { λ b. ⌜ b ≡ not (inWindow s) ⌝ }
+fn is_machine(v: View) -> bool
+    ensures { λ b. ⌜ b ≡ isMachine v ⌝ }
 {
-    !in_window(s)
-}
-
-// Whether the state enables gate a register.
-fn gated(r: Registers, g: Register) -> bool
-    ensures { λ b. ⌜ b ≡ gatedOf r g ⌝ }
-{
-    match g {
-        Register::Mctrctl => false,
-        Register::Sctrctl => true,
-        Register::Vsctrctl => true,
-        Register::Sctrdepth => true,
-        Register::Sctrstatus => true,
-        Register::Siselect => false, // select registers are not gated
-        Register::Vsiselect => false,
-        Register::Sireg(_) => in_window(r.siselect),
-        Register::Vsireg(_) => in_window(r.vsiselect),
-        Register::Unlisted => false,
+    match v {
+        View::Machine => true,
+        View::Supervisor => false,
+        View::Guest => false,
     }
 }
 
-// Whether a register is an ireg whose selection is outside the window.
-fn outside(r: Registers, g: Register) -> bool
-    ensures { λ b. ⌜ b ≡ outsideOf r g ⌝ }
+fn is_guest(v: View) -> bool
+    ensures { λ b. ⌜ b ≡ isGuest v ⌝ }
 {
-    match g {
-        Register::Mctrctl => false,
-        Register::Sctrctl => false,
-        Register::Vsctrctl => false,
-        Register::Sctrdepth => false,
-        Register::Sctrstatus => false,
-        Register::Siselect => false,
-        Register::Vsiselect => false,
-        Register::Sireg(_) => out_of_window(r.siselect),
-        Register::Vsireg(_) => out_of_window(r.vsiselect),
-        Register::Unlisted => false,
+    match v {
+        View::Machine => false,
+        View::Supervisor => false,
+        View::Guest => true,
     }
 }
 
-// Whether VS may not reach a register.
-fn is_hypervisors(g: Register) -> bool
-    ensures { λ b. ⌜ b ≡ isHypervisors g ⌝ }
+// Of a control register; all but mctrctl are gated.
+fn control_facts(v: View) -> Facts
+    ensures { λ f. ⌜ f ≡ facts false (isMachine v) (isGuest v) (not (isMachine v)) false ⌝ }
 {
-    match g {
-        Register::Mctrctl => false,
-        Register::Sctrctl => false,
-        Register::Vsctrctl => true,
-        Register::Sctrdepth => true,
-        Register::Sctrstatus => false,
-        Register::Siselect => false,
-        Register::Vsiselect => true,
-        Register::Sireg(_) => false,
-        Register::Vsireg(_) => true,
-        Register::Unlisted => false,
+    Facts {
+        unlisted: false,
+        machine: is_machine(v),
+        barred: is_guest(v),
+        gated: !is_machine(v),
+        outside: false,
     }
 }
 
-fn is_unlisted(g: Register) -> bool
-    ensures { λ b. ⌜ b ≡ isUnlisted g ⌝ }
+// Of a select register; none is gated.
+fn select_facts(v: View) -> Facts
+    ensures { λ f. ⌜ f ≡ facts false (isMachine v) (isGuest v) false false ⌝ }
 {
-    match g {
-        Register::Mctrctl => false,
-        Register::Sctrctl => false,
-        Register::Vsctrctl => false,
-        Register::Sctrdepth => false,
-        Register::Sctrstatus => false,
-        Register::Siselect => false,
-        Register::Vsiselect => false,
-        Register::Sireg(_) => false,
-        Register::Vsireg(_) => false,
-        Register::Unlisted => true,
+    Facts {
+        unlisted: false,
+        machine: is_machine(v),
+        barred: is_guest(v),
+        gated: false, // no select register is
+        outside: false,
     }
 }
 
-fn is_mctrctl(g: Register) -> bool
-    ensures { λ b. ⌜ b ≡ isMctrctl g ⌝ }
+fn ireg_facts(v: View, selection: u64) -> Facts
+    ensures { λ f. ⌜ f ≡ facts false (isMachine v) (isGuest v) (inWindow selection) (not (inWindow selection)) ⌝ }
 {
-    match g {
-        Register::Mctrctl => true,
-        Register::Sctrctl => false,
-        Register::Vsctrctl => false,
-        Register::Sctrdepth => false,
-        Register::Sctrstatus => false,
-        Register::Siselect => false,
-        Register::Vsiselect => false,
-        Register::Sireg(_) => false,
-        Register::Vsireg(_) => false,
-        Register::Unlisted => false,
+    let gated = in_window(selection);
+    Facts {
+        unlisted: false,
+        machine: is_machine(v),
+        barred: is_guest(v),
+        gated,
+        outside: !gated,
     }
+}
+
+// The selection that an ireg of a view means in the current mode.
+fn selection_in(r: Registers, v: View) -> u64
+    ensures { λ x. ⌜ x ≡ selectOf (r .selects) (viewIn (r .mode) v) ⌝ }
+{
+    let m = r.mode;
+    let s = r.selects;
+    select(s, view_in(m, v))
 }
 
 // What the steps ask of a register.
-pub fn target(r: Registers, g: Register) -> Target
-    ensures { λ t. ⌜ t ≡ targetOf r g ⌝ }
+pub fn facts_of(r: Registers, g: Csr) -> Facts
+    ensures { λ f. ⌜ f ≡ factsOf r g ⌝ }
 {
-    let m = r.mode;
-    let q = meant(m, g);
-    Target {
-        unlisted: is_unlisted(g),
-        mctrctl: is_mctrctl(g),
-        hypervisors: is_hypervisors(g),
-        gated: gated(r, q),
-        outside: outside(r, q),
+    match g {
+        Csr::Control(v) => control_facts(v),
+        Csr::Select(v) => select_facts(v),
+        Csr::Ireg(v, _) => ireg_facts(v, selection_in(r, v)),
+        Csr::Depth => Facts {
+            unlisted: false,
+            machine: false,
+            barred: true,
+            gated: true,
+            outside: false,
+        },
+        Csr::Status => Facts {
+            unlisted: false,
+            machine: false,
+            barred: false,
+            gated: true,
+            outside: false,
+        },
+        Csr::Unlisted => Facts {
+            unlisted: true,
+            machine: false,
+            barred: false,
+            gated: false,
+            outside: false,
+        },
     }
 }
 
-fn by_step2(r: Registers, t: Target) -> bool
-    ensures { λ b. ⌜ b ≡ step2 r t ⌝ }
+// What the steps ask of SCTRCLR.
+pub fn sctrclr_facts() -> Facts
+    ensures { λ f. ⌜ f ≡ sctrclrFacts ⌝ }
+{
+    Facts {
+        unlisted: false,
+        machine: false,
+        barred: false,
+        gated: true, // SCTRCLR is of step 3's list
+        outside: false,
+    }
+}
+
+fn by_step2(r: Registers, f: Facts) -> bool
+    ensures { λ b. ⌜ b ≡ step2 r f ⌝ }
 {
     let m = r.mode;
-    let mctrctl = t.mctrctl;
+    let machine = f.machine;
     if is_u(m) {
         true
-    } else if mctrctl {
+    } else if machine {
         !is_m(m)
     } else {
         false
     }
 }
 
-fn by_step3(r: Registers, t: Target) -> bool
-    ensures { λ b. ⌜ b ≡ step3 r t ⌝ }
+fn by_step3(r: Registers, f: Facts) -> bool
+    ensures { λ b. ⌜ b ≡ step3 r f ⌝ }
 {
     let m = r.mode;
-    let enabled = r.mstateen0;
+    let enabled = r.enables.mstateen0;
     if is_m(m) {
         false
     } else if enabled {
         false
     } else {
-        t.gated
+        f.gated
     }
 }
 
-fn by_step5(r: Registers, t: Target) -> bool
-    ensures { λ b. ⌜ b ≡ step5 r t ⌝ }
+fn by_step5(r: Registers, f: Facts) -> bool
+    ensures { λ b. ⌜ b ≡ step5 r f ⌝ }
 {
     let m = r.mode;
-    let hypervisors = t.hypervisors;
-    let enabled = r.hstateen0;
+    let barred = f.barred;
+    let enabled = r.enables.hstateen0;
     if is_vs(m) {
-        if hypervisors {
+        if barred {
             true
         } else if enabled {
             false
         } else {
-            t.gated
+            f.gated
         }
     } else {
         false
     }
 }
 
-// The number of the first step that applies, or 0.
-fn first_step(one: bool, two: bool, three: bool, four: bool, five: bool, six: bool) -> u64
-    ensures { λ n. ⌜ n ≡ firstStep one two three four five six ⌝ }
+// What the first step that applies says.
+fn first_step(one: bool, two: bool, three: bool, four: bool, five: bool, six: bool) -> Verdict
+    ensures { λ v. ⌜ v ≡ firstStep one two three four five six ⌝ }
 {
     if one {
-        3
+        Verdict::NoSuchRegister
     } else if two {
-        1
+        Verdict::IllegalInstruction
     } else if three {
-        1
+        Verdict::IllegalInstruction
     } else if four {
-        2
+        Verdict::VirtualInstruction
     } else if five {
-        2
+        Verdict::VirtualInstruction
     } else if six {
-        3
+        Verdict::NoSuchRegister
     } else {
-        0
+        Verdict::Accepted
     }
 }
 
-// Why an access is refused: the number of the first step that applies, or 0.
-pub fn refusal(r: Registers, t: Target) -> u64
-    ensures { λ n. ⌜ n ≡ refusalOf r t ⌝ }
+// What the access steps say: the first that applies.
+pub fn refusal(r: Registers, f: Facts) -> Verdict
+    ensures { λ v. ⌜ v ≡ refusalOf r f ⌝ }
 {
     let m = r.mode;
     first_step(
-        t.unlisted,
-        by_step2(r, t),
-        by_step3(r, t),
+        f.unlisted,
+        by_step2(r, f),
+        by_step3(r, f),
         is_vu(m),
-        by_step5(r, t),
-        t.outside,
+        by_step5(r, f),
+        f.outside,
     )
 }

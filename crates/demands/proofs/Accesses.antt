@@ -2,118 +2,120 @@
 -- event. Assumes nothing.
 use Prim.Native.Nat.{ℕ, zero, suc, _+_, _-_, _%_, _<_, min}
 use mathlib.Core.Path.{_≡_, refl, sym, ap, _∙_}
-use mathlib.Core.Bool.{Bool, true, false}
+use mathlib.Core.Bool.{Bool, true, false, false≢true}
 use native.Mathlib.Nat.{mod-eq-of-lt}
 use native.Mathlib.Omega.{arith}
-use lib.Dec.{eqb, ltb}
-use borrow.Author.Tests.{eqb-true, eqb-false, ne-eqb, ltb-true, le-ltb}
+use lib.Dec.{ltb}
+use borrow.Author.Tests.{ne-eqb, ltb-true, le-ltb}
 use Rattle.bits.specs.Choice.{if_then_else_}
 use Rattle.bits.specs.Words.{joined, without}
-use Rattle.machine.specs.Answers.{refused, answered, answeredPut, answeredClear}
-use Rattle.machine.specs.Modes.{isVirtual, isVS}
+use Rattle.machine.specs.Answers.{numberOf, isAccepted, refused, answered, answeredClear}
+use Rattle.machine.specs.Entries.{definedOf}
+use Rattle.machine.specs.Modes.{isVirtual}
 use Rattle.machine.specs.Regs as Regs
 use Rattle.machine.specs.Regs.{physicalOf, goodOf}
+use Rattle.machine.specs.declared.CsrAccess.{CsrAccess}
 use Rattle.machine.specs.declared.Decision.{Decision}
+use Rattle.machine.specs.declared.Effect.{Effect}
+use Rattle.machine.specs.declared.Effect.the-variants.{Keep, Put}
+use Rattle.machine.specs.declared.Enables.{Enables}
 use Rattle.machine.specs.declared.Entry.{Entry}
+use Rattle.machine.specs.declared.Event.the-variants.{Access, Sctrclr, Host}
 use Rattle.machine.specs.declared.Mode.{Mode}
 use Rattle.machine.specs.declared.Mode.the-variants.{U, S, M, VU, VS}
+use Rattle.machine.specs.declared.Operation.{Operation}
+use Rattle.machine.specs.declared.Operation.the-variants.{Read, Write, Set, Clear}
 use Rattle.machine.specs.declared.Registers.{Registers}
+use Rattle.machine.specs.declared.Verdict.{Verdict}
+use Rattle.machine.specs.declared.Verdict.the-variants.{Accepted, IllegalInstruction, VirtualInstruction, NoSuchRegister, ChangeNotPossible, BadState}
 use Rattle.machine.proofs.Depths.{depth-le}
-use Rattle.csr.specs.Numbers.{registerOf, meantOf}
-use Rattle.csr.specs.Steps.{selectionOf, targetOf, sctrclrTarget, refusalOf}
-use Rattle.csr.specs.declared.Register.{Register}
-use Rattle.csr.specs.declared.Register.the-variants.{Mctrctl, Sctrctl, Vsctrctl, Sctrdepth, Sctrstatus, Siselect, Vsiselect, Sireg, Vsireg, Unlisted}
+use Rattle.csr.specs.Numbers.{registerOf, viewIn, meantOf}
+use Rattle.csr.specs.Steps.{selectOf, selectionOf, factsOf, sctrclrFacts, refusalOf}
+use Rattle.csr.specs.declared.Csr.{Csr}
+use Rattle.csr.specs.declared.Csr.the-variants.{Control, Select, Ireg, Depth, Status, Unlisted}
+use Rattle.csr.specs.declared.View.{View}
+use Rattle.csr.specs.declared.View.the-variants.{Machine, Supervisor, Guest}
 use Rattle.access.specs.Accesses as Accesses
-use Rattle.access.specs.Accesses.{accessOf, accessTo, grantedOf, operatedOf, sctrclrOf, hostOf}
-use Rattle.access.specs.Readings.{statusOf, wordOf, isEntry, entryReading, readingOf}
-use Rattle.access.specs.Writes.{sctrctlWritten, sctrdepthWritten, sctrstatusWritten, withWord, entryWritten, writeOf}
-use Rattle.access.specs.declared.Operation.{Operation}
-use Rattle.access.specs.declared.Operation.the-variants.{Read, Write, Set, Clear}
+use Rattle.access.specs.Accesses.{isRead, operandOf, writeOf, operatedOf, grantedOf, accessTo, accessOf, sctrclrOf, hostOf}
+use Rattle.access.specs.Readings.{statusOf, storedOf, wordOf, isEntry, entryReading, controlReading, readingOf}
+use Rattle.access.specs.Writes.{controlWritten, selectWritten, depthWritten, statusWritten, registersWritten, withStored, withWord, entryWritten, effectWritten}
 use Rattle.recorder.specs.Decisions.{eventOf, decideOf}
 use Rattle.recorder.specs.Entries.{entryAt, withEntry, appliedOf}
 use Rattle.recorder.specs.Events.{focusOf}
 use Rattle.recorder.specs.Steps.{stateOf, entriesIn, focusIn, decidedOf, stepOf}
-use Rattle.recorder.specs.declared.Event.{Event}
-use Rattle.recorder.specs.declared.Event.the-variants.{Access, Sctrclr, Host}
 use Rattle.recorder.specs.declared.State.{State}
 use Rattle.demands.specs.States.{depth, Free}
-use Rattle.demands.specs.Registers.{physical, selected, word, wordAt, changedAt, putAt, sctrctlIn, sctrctlTo, selectedTo, reading, put, written, withZeros, withStateen}
+use Rattle.demands.specs.Registers.{physical, selected, word, wordAt, changedAt, putAt, sctrctlIn, sctrctlTo, siselectToIn, selectedTo, reading, put, written, withZeros, withEnables}
 use Rattle.demands.specs.Steps.{Window, Outside}
 use Rattle.demands.specs.Demands.{GrantedAt}
 use Rattle.demands.proofs.Decides.{holds}
 use Rattle.demands.proofs.Free.{free}
-use Rattle.demands.proofs.Steps.{window, granted-reach}
+use Rattle.demands.proofs.Steps.{window, selected-is, granted-reach}
 use Rattle.demands.proofs.Tests.{depth-is, physical-is}
 
+-- a verdict that accepts has number 0, and no other has
+accepted : (v : Verdict) → isAccepted v ≡ true → numberOf v ≡ 0
+accepted Accepted h = refl
+accepted IllegalInstruction h = absurd (false≢true h)
+accepted VirtualInstruction h = absurd (false≢true h)
+accepted NoSuchRegister h = absurd (false≢true h)
+accepted ChangeNotPossible h = absurd (false≢true h)
+accepted BadState h = absurd (false≢true h)
+
+not-accepted : (v : Verdict) → isAccepted v ≡ false → numberOf v ≡ 0 → ⊥
+not-accepted Accepted h z = false≢true (sym h)
+not-accepted IllegalInstruction h z = omega (arith, z)
+not-accepted VirtualInstruction h z = omega (arith, z)
+not-accepted NoSuchRegister h z = omega (arith, z)
+not-accepted ChangeNotPossible h z = omega (arith, z)
+not-accepted BadState h z = omega (arith, z)
+
 -- a granted access is what the definition grants
-module _ (s : State) (o : Operation) (n x : ℕ) where
+module _ (s : State) (a : CsrAccess) where
   abbrev r : Registers
   r = s .registers
 
   abbrev at : ℕ
-  at = Accesses.focusOf r n
+  at = Accesses.focusOf r (a .number)
 
-  abbrev g : Register
-  g = meantOf (r .mode) (registerOf n)
+  abbrev g : Csr
+  g = meantOf (r .mode) (registerOf (a .number))
 
   abbrev granted : Decision
-  granted = grantedOf r (entryAt (entriesIn s) at) g o x
+  granted = grantedOf r (entryAt (entriesIn s) at) g (a .operation) (a .operand)
 
-  access-granted : stepOf s (Access o n x) .number ≡ 0
-      → (goodOf r ≡ true) × (refusalOf r (targetOf r (registerOf n)) ≡ 0)
-      × (stepOf s (Access o n x) .value ≡ granted .value)
-      × (stepOf s (Access o n x) .state ≡ stateOf (granted .registers) (appliedOf (entriesIn s) (granted .effect) at))
+  access-granted : stepOf s (Access a) .number ≡ 0
+      → (goodOf r ≡ true) × (numberOf (refusalOf r (factsOf r (registerOf (a .number)))) ≡ 0)
+      × (stepOf s (Access a) .value ≡ granted .value)
+      × (stepOf s (Access a) .state ≡ stateOf (granted .registers) (appliedOf (entriesIn s) (granted .effect) at))
   unfolding stepOf decidedOf focusIn decideOf eventOf focusOf accessOf accessTo
-  access-granted = go (goodOf r) refl (eqb k 0) refl
+  access-granted = go (goodOf r) refl (isAccepted k) refl
     where
-      k : ℕ
-      k = refusalOf r (targetOf r (registerOf n))
+      k : Verdict
+      k = refusalOf r (factsOf r (registerOf (a .number)))
 
       d : Bool → Bool → Decision
-      d b c = if b then (if c then granted else refused r k) else refused r 5
+      d b c = if b then (if c then granted else refused r k) else refused r BadState
 
-      go : (b : Bool) → goodOf r ≡ b → (c : Bool) → eqb k 0 ≡ c → d b c .number ≡ 0
-          → (goodOf r ≡ true) × (k ≡ 0) × (d b c .value ≡ granted .value)
+      go : (b : Bool) → goodOf r ≡ b → (c : Bool) → isAccepted k ≡ c → d b c .number ≡ 0
+          → (goodOf r ≡ true) × (numberOf k ≡ 0) × (d b c .value ≡ granted .value)
           × (stateOf (d b c .registers) (appliedOf (entriesIn s) (d b c .effect) at)
           ≡ stateOf (granted .registers) (appliedOf (entriesIn s) (granted .effect) at))
-      go true f true e h = (f, eqb-true k 0 e, refl, refl)
-      go true f false e h = absurd (eqb-false k 0 e h)
+      go true f true e h = (f, accepted k e, refl, refl)
+      go true f false e h = absurd (not-accepted k e h)
       go false f c e h = absurd (omega (arith, h))
 
 -- whatever is written, the answer is the old reading
-entry-value : (r : Registers) (i : ℕ) (old : Entry) (k v x : ℕ) → entryWritten r i old k v x .value ≡ v
-unfolding entryWritten
-entry-value r i old k v x = go (isEntry r i) (ltb k 3)
-  where
-    go : (a b : Bool)
-        → (if a then (if b then answeredPut r v (withWord old k x) else answered r v) else answered r v) .value ≡ v
-    go true true = refl
-    go true false = refl
-    go false b = refl
-
-write-value : (r : Registers) (old : Entry) (g : Register) (v x : ℕ) → writeOf r old g v x .value ≡ v
-unfolding writeOf
-write-value r old Mctrctl v x = refl
-write-value r old Sctrctl v x = refl
-write-value r old Vsctrctl v x = refl
-write-value r old Sctrdepth v x = refl
-write-value r old Sctrstatus v x = refl
-write-value r old Siselect v x = refl
-write-value r old Vsiselect v x = refl
-write-value r old (Sireg k) v x = entry-value r (r .siselect) old k v x
-write-value r old (Vsireg k) v x = entry-value r (r .vsiselect) old k v x
-write-value r old Unlisted v x = refl
-
-granted-value : (r : Registers) (old : Entry) (g : Register) (o : Operation) (x : ℕ) → grantedOf r old g o x .value ≡ readingOf r old g
-unfolding grantedOf operatedOf
+granted-value : (r : Registers) (old : Entry) (g : Csr) (o : Operation) (x : ℕ) → grantedOf r old g o x .value ≡ readingOf r old g
+unfolding grantedOf operatedOf writeOf
 granted-value r old g Read x = refl
-granted-value r old g Write x = write-value r old g _ _
-granted-value r old g Set x = write-value r old g _ _
-granted-value r old g Clear x = write-value r old g _ _
+granted-value r old g Write x = refl
+granted-value r old g Set x = refl
+granted-value r old g Clear x = refl
 
 -- words of an entry
 word-is : (e : Entry) (k : ℕ) → wordOf e k ≡ word e k
-unfolding wordOf
+unfolding wordOf storedOf definedOf
 word-is e zero = refl
 word-is e (suc zero) = refl
 word-is e (suc (suc zero)) = refl
@@ -130,201 +132,190 @@ module _ (s : State) (i : ℕ) (w : Window i) where
   low = omega (arith, w .from, w .to)
 
   abbrev place : ℕ
-  place = physicalOf (q .sctrdepth) (q .wrptr) (i % 256)
+  place = physicalOf (q .buffer .code) (q .buffer .wrptr) (i % 256)
 
-  is-entry : isEntry q i ≡ ltb (i - 0x200) (depth (q .sctrdepth))
+  is-entry : isEntry (q .buffer) i ≡ ltb (i - 0x200) (depth (q .buffer .code))
   unfolding isEntry
-  is-entry = rw (low, depth-is (q .sctrdepth))
+  is-entry = rw (low, depth-is (q .buffer .code))
 
-  place-is : ltb (i - 0x200) (depth (q .sctrdepth)) ≡ true → place ≡ physical q (i - 0x200)
+  place-is : ltb (i - 0x200) (depth (q .buffer .code)) ≡ true → place ≡ physical q (i - 0x200)
   place-is h = rw low (physical-is q (i - 0x200) (ltb-true _ _ h))
 
-  entry-reading : (k : ℕ) → entryReading q i (entryAt (entriesIn s) place) k ≡ wordAt s i k
+  entry-reading : (k : ℕ) → entryReading (q .buffer) i (entryAt (entriesIn s) place) k ≡ wordAt s i k
   unfolding entryReading
-  entry-reading k = rw is-entry (go (ltb (i - 0x200) (depth (q .sctrdepth))) refl)
+  entry-reading k = rw is-entry (go (ltb (i - 0x200) (depth (q .buffer .code))) refl)
     where
-      go : (b : Bool) → ltb (i - 0x200) (depth (q .sctrdepth)) ≡ b
+      go : (b : Bool) → ltb (i - 0x200) (depth (q .buffer .code)) ≡ b
           → (if b then wordOf (entryAt (entriesIn s) place) k else 0) ≡ (if b then word (entryAt (entriesIn s) (physical q (i - 0x200))) k else 0)
       go true h = rw (place-is h) (word-is _ k)
       go false h = refl
 
-  -- a decision's state
-  abbrev after : Decision → State
-  after d = stateOf (d .registers) (appliedOf (entriesIn s) (d .effect) place)
+  -- the state after an effect
+  abbrev after : Effect → State
+  after f = stateOf q (appliedOf (entriesIn s) f place)
 
-  entry-put : (k v x : ℕ) (c : Entry → Entry) → ltb k 3 ≡ true → ((e : Entry) → withWord e k x ≡ c e)
-      → after (entryWritten q i (entryAt (entriesIn s) place) k v x) ≡ changedAt s i c
+  entry-put : (k x : ℕ) (c : Entry → Entry) → ltb k 3 ≡ true → ((e : Entry) → withWord e k x ≡ c e)
+      → after (entryWritten (q .buffer) i (entryAt (entriesIn s) place) k x) ≡ changedAt s i c
   unfolding entryWritten appliedOf
-  entry-put k v x c l e = rw (is-entry, l) (go (ltb (i - 0x200) (depth (q .sctrdepth))) refl)
+  entry-put k x c l e = rw (is-entry, l) (go (ltb (i - 0x200) (depth (q .buffer .code))) refl)
     where
-      d : Bool → Decision
-      d b = if b then answeredPut q v (withWord (entryAt (entriesIn s) place) k x) else answered q v
+      f : Bool → Effect
+      f b = if b then Put (withWord (entryAt (entriesIn s) place) k x) else Keep
 
-      go : (b : Bool) → ltb (i - 0x200) (depth (q .sctrdepth)) ≡ b
-          → after (d b)
+      go : (b : Bool) → ltb (i - 0x200) (depth (q .buffer .code)) ≡ b
+          → after (f b)
           ≡ (let p = physical q (i - 0x200) in if b then stateOf q (withEntry (entriesIn s) p (c (entryAt (entriesIn s) p))) else s)
       go true h = rw (place-is h, e (entryAt (entriesIn s) (physical q (i - 0x200))))
       go false h = refl
 
-  entry-kept : (k v x : ℕ) → ltb k 3 ≡ false → after (entryWritten q i (entryAt (entriesIn s) place) k v x) ≡ s
+  entry-kept : (k x : ℕ) → ltb k 3 ≡ false → after (entryWritten (q .buffer) i (entryAt (entriesIn s) place) k x) ≡ s
   unfolding entryWritten appliedOf
-  entry-kept k v x l = rw l (go (isEntry q i))
+  entry-kept k x l = rw l (go (isEntry (q .buffer) i))
     where
-      go : (b : Bool) → after (if b then answered q v else answered q v) ≡ s
+      go : (b : Bool) → after (if b then Keep else Keep) ≡ s
       go true = refl
       go false = refl
 
-  entry-written : (k v x : ℕ) → after (entryWritten q i (entryAt (entriesIn s) place) k v x) ≡ putAt s i k x
-  unfolding withWord
-  entry-written zero v x = entry-put 0 v x _ refl (λ e. refl)
-  entry-written (suc zero) v x = entry-put 1 v x _ refl (λ e. refl)
-  entry-written (suc (suc zero)) v x = entry-put 2 v x _ refl (λ e. refl)
-  entry-written (suc (suc (suc k))) v x = entry-kept (suc (suc (suc k))) v x (le-ltb (suc (suc (suc k))) 3 (omega arith))
+  entry-written : (k x : ℕ) → after (entryWritten (q .buffer) i (entryAt (entriesIn s) place) k x) ≡ putAt s i k x
+  unfolding withWord withStored definedOf
+  entry-written zero x = entry-put 0 x _ refl (λ e. refl)
+  entry-written (suc zero) x = entry-put 1 x _ refl (λ e. refl)
+  entry-written (suc (suc zero)) x = entry-put 2 x _ refl (λ e. refl)
+  entry-written (suc (suc (suc k))) x = entry-kept (suc (suc (suc k))) x (le-ltb (suc (suc (suc k))) 3 (omega arith))
 
--- readings, by what a register means in the mode
+-- readings and writes, by what a register means in the mode
 module _ (s : State) where
-  abbrev a : Registers
-  a = s .registers
+  abbrev b : Registers
+  b = s .registers
 
-  abbrev old : Register → Entry
-  old g = entryAt (entriesIn s) (physicalOf (a .sctrdepth) (a .wrptr) (selectionOf a g % 256))
+  abbrev old : Csr → Entry
+  old g = entryAt (entriesIn s) (physicalOf (b .buffer .code) (b .buffer .wrptr) (selectionOf (b .selects) g % 256))
 
-  sctrctl-reading : (m : Mode) (e : Entry) → readingOf a e (if isVS m then Vsctrctl else Sctrctl) ≡ sctrctlIn a m
-  unfolding readingOf
-  sctrctl-reading U e = refl
-  sctrctl-reading S e = refl
-  sctrctl-reading M e = refl
-  sctrctl-reading VU e = refl
-  sctrctl-reading VS e = refl
+  sctrctl-reading : (m : Mode) → (m ≡ VU → ⊥) → controlReading (b .controls) (if isVirtual m then Guest else Supervisor) ≡ sctrctlIn b m
+  unfolding controlReading
+  sctrctl-reading U n = refl
+  sctrctl-reading S n = refl
+  sctrctl-reading M n = refl
+  sctrctl-reading VU n = absurd (n refl)
+  sctrctl-reading VS n = refl
 
-  siselect-reading : (m : Mode) (e : Entry) → readingOf a e (if isVirtual m then Vsiselect else Siselect) ≡ selected a m
-  unfolding readingOf
-  siselect-reading U e = refl
-  siselect-reading S e = refl
-  siselect-reading M e = refl
-  siselect-reading VU e = refl
-  siselect-reading VS e = refl
+  -- an ireg of a view
+  ireg-reading : (v : View) (k : ℕ) → Window (selected b v)
+      → (let w = viewIn (b .mode) v in entryReading (b .buffer) (selectOf (b .selects) w) (old (Ireg w k)) k) ≡ wordAt s (selected b v) k
+  ireg-reading v k w = rw (selected-is b v) (entry-reading s (selected b v) w k)
 
-  sireg-reading : (k : ℕ) (m : Mode) → Window (selected a m)
-      → (let g = if isVirtual m then Vsireg k else Sireg k in readingOf a (old g) g) ≡ wordAt s (selected a m) k
-  unfolding readingOf
-  sireg-reading k U w = entry-reading s (a .siselect) w k
-  sireg-reading k S w = entry-reading s (a .siselect) w k
-  sireg-reading k M w = entry-reading s (a .siselect) w k
-  sireg-reading k VU w = entry-reading s (a .vsiselect) w k
-  sireg-reading k VS w = entry-reading s (a .vsiselect) w k
+  reading-is : (g : Csr) → b .buffer .wrptr < 256 → (b .mode ≡ VU → ⊥) → (Outside b g → ⊥)
+      → readingOf b (old (meantOf (b .mode) g)) (meantOf (b .mode) g) ≡ reading s g
+  unfolding meantOf viewIn readingOf controlReading statusOf
+  reading-is (Control Machine) l n o = refl
+  reading-is (Control Supervisor) l n o = sctrctl-reading (b .mode) n
+  reading-is (Control Guest) l n o = refl
+  reading-is (Select v) l n o = selected-is b v
+  reading-is (Ireg v k) l n o = ireg-reading v k (holds (window (selected b v)) (λ m. o (Outside.ireg m)))
+  reading-is Depth l n o = refl
+  reading-is Status l n o = rw (mod-eq-of-lt l)
+  reading-is Unlisted l n o = refl
 
-  reading-is : (g : Register) → a .wrptr < 256 → (Outside a g → ⊥)
-      → readingOf a (old (meantOf (a .mode) g)) (meantOf (a .mode) g) ≡ reading s g
-  unfolding meantOf readingOf statusOf
-  reading-is Mctrctl l o = refl
-  reading-is Sctrctl l o = sctrctl-reading (a .mode) _
-  reading-is Vsctrctl l o = refl
-  reading-is Sctrdepth l o = refl
-  reading-is Sctrstatus l o = rw (mod-eq-of-lt l)
-  reading-is Siselect l o = siselect-reading (a .mode) _
-  reading-is Vsiselect l o = refl
-  reading-is (Sireg k) l o = sireg-reading k (a .mode) (holds (window (selected a (a .mode))) (λ n. o (Outside.sireg n)))
-  reading-is (Vsireg k) l o = entry-reading s (a .vsiselect) (holds (window (a .vsiselect)) (λ n. o (Outside.vsireg n))) k
-  reading-is Unlisted l o = refl
+  -- the state after a write of a register, as it means in the mode
+  abbrev ends : Csr → ℕ → State
+  ends g x =
+      stateOf (registersWritten b g x)
+      (appliedOf (entriesIn s) (effectWritten b (old g) g x) (physicalOf (b .buffer .code) (b .buffer .wrptr) (selectionOf (b .selects) g % 256)))
 
-  -- writes
-  abbrev ends : Register → Decision → State
-  ends g d = stateOf (d .registers) (appliedOf (entriesIn s) (d .effect) (physicalOf (a .sctrdepth) (a .wrptr) (selectionOf a g % 256)))
+  sctrctl-written : (m : Mode) (x : ℕ) → (m ≡ VU → ⊥)
+      → Regs.withControls b (controlWritten (b .controls) (if isVirtual m then Guest else Supervisor) x) ≡ sctrctlTo m x b
+  unfolding controlWritten
+  sctrctl-written U x n = refl
+  sctrctl-written S x n = refl
+  sctrctl-written M x n = refl
+  sctrctl-written VU x n = absurd (n refl)
+  sctrctl-written VS x n = refl
 
-  sctrctl-written : (m : Mode) (e : Entry) (v x : ℕ)
-      → (let g = if isVS m then Vsctrctl else Sctrctl in ends g (writeOf a e g v x)) ≡ stateOf (sctrctlTo m x a) (entriesIn s)
-  unfolding writeOf sctrctlWritten appliedOf
-  sctrctl-written U e v x = refl
-  sctrctl-written S e v x = refl
-  sctrctl-written M e v x = refl
-  sctrctl-written VU e v x = refl
-  sctrctl-written VS e v x = refl
+  siselect-written : (m : Mode) (x : ℕ)
+      → Regs.withSelects b (selectWritten (b .selects) (if isVirtual m then Guest else Supervisor) x) ≡ siselectToIn m x b
+  unfolding selectWritten
+  siselect-written U x = refl
+  siselect-written S x = refl
+  siselect-written M x = refl
+  siselect-written VU x = refl
+  siselect-written VS x = refl
 
-  siselect-written : (m : Mode) (e : Entry) (v x : ℕ)
-      → (let g = if isVirtual m then Vsiselect else Siselect in ends g (writeOf a e g v x)) ≡ stateOf (selectedTo m x a) (entriesIn s)
-  unfolding writeOf appliedOf
-  siselect-written U e v x = refl
-  siselect-written S e v x = refl
-  siselect-written M e v x = refl
-  siselect-written VU e v x = refl
-  siselect-written VS e v x = refl
+  ireg-written : (v : View) (k x : ℕ) → Window (selected b v)
+      → (let w = viewIn (b .mode) v in
+      let p = physicalOf (b .buffer .code) (b .buffer .wrptr) (selectOf (b .selects) w % 256) in
+      stateOf b (appliedOf (entriesIn s) (entryWritten (b .buffer) (selectOf (b .selects) w) (old (Ireg w k)) k x) p)) ≡ putAt s (selected b v) k x
+  ireg-written v k x w = rw (selected-is b v) (entry-written s (selected b v) w k x)
 
-  sireg-written : (k : ℕ) (m : Mode) (v x : ℕ) → Window (selected a m)
-      → (let g = if isVirtual m then Vsireg k else Sireg k in ends g (writeOf a (old g) g v x)) ≡ putAt s (selected a m) k x
-  unfolding writeOf
-  sireg-written k U v x w = entry-written s (a .siselect) w k v x
-  sireg-written k S v x w = entry-written s (a .siselect) w k v x
-  sireg-written k M v x w = entry-written s (a .siselect) w k v x
-  sireg-written k VU v x w = entry-written s (a .vsiselect) w k v x
-  sireg-written k VS v x w = entry-written s (a .vsiselect) w k v x
+  put-is : (g : Csr) (x : ℕ) → (b .mode ≡ VU → ⊥) → (Outside b g → ⊥) → ends (meantOf (b .mode) g) x ≡ put s g x
+  unfolding meantOf viewIn registersWritten effectWritten controlWritten selectWritten depthWritten statusWritten appliedOf
+  put-is (Control Machine) x n o = refl
+  put-is (Control Supervisor) x n o = ap (λ (r : Registers). stateOf r (entriesIn s)) (sctrctl-written (b .mode) x n)
+  put-is (Control Guest) x n o = refl
+  put-is (Select Machine) x n o = refl
+  put-is (Select Supervisor) x n o = ap (λ (r : Registers). stateOf r (entriesIn s)) (siselect-written (b .mode) x)
+  put-is (Select Guest) x n o = refl
+  put-is (Ireg v k) x n o = ireg-written v k x (holds (window (selected b v)) (λ m. o (Outside.ireg m)))
+  put-is Depth x n o = rw (depth-is (min (x % 8) 3))
+  put-is Status x n o = rw (depth-is (b .buffer .code))
+  put-is Unlisted x n o = refl
 
-  put-is : (g : Register) (v x : ℕ) → (Outside a g → ⊥)
-      → (let m = meantOf (a .mode) g in ends m (writeOf a (old m) m v x)) ≡ put s g x
-  unfolding meantOf writeOf sctrdepthWritten sctrstatusWritten appliedOf
-  put-is Mctrctl v x o = refl
-  put-is Sctrctl v x o = sctrctl-written (a .mode) _ v x
-  put-is Vsctrctl v x o = refl
-  put-is Sctrdepth v x o = rw (depth-is (min (x % 8) 3))
-  put-is Sctrstatus v x o = rw (depth-is (a .sctrdepth))
-  put-is Siselect v x o = siselect-written (a .mode) _ v x
-  put-is Vsiselect v x o = refl
-  put-is (Sireg k) v x o = sireg-written k (a .mode) v x (holds (window (selected a (a .mode))) (λ n. o (Outside.sireg n)))
-  put-is (Vsireg k) v x o = entry-written s (a .vsiselect) (holds (window (a .vsiselect)) (λ n. o (Outside.vsireg n))) k v x
-  put-is Unlisted v x o = refl
+  written-is : (g : Csr) (o : Operation) (x : ℕ) → b .buffer .wrptr < 256 → (b .mode ≡ VU → ⊥) → (Outside b g → ⊥)
+      → (let m = meantOf (b .mode) g in
+      let d = grantedOf b (old m) m o x in
+      stateOf (d .registers)
+      (appliedOf (entriesIn s) (d .effect) (physicalOf (b .buffer .code) (b .buffer .wrptr) (selectionOf (b .selects) m % 256))))
+      ≡ written s o g x
+  unfolding grantedOf operatedOf operandOf writeOf appliedOf
+  written-is g Read x l n o = refl
+  written-is g Write x l n o = put-is g x n o
+  written-is g Set x l n o = put-is g _ n o ∙ ap (λ (v : ℕ). put s g (joined v x)) (reading-is g l n o)
+  written-is g Clear x l n o = put-is g _ n o ∙ ap (λ (v : ℕ). put s g (without v x)) (reading-is g l n o)
 
-  written-is : (g : Register) (o : Operation) (x : ℕ) → a .wrptr < 256 → (Outside a g → ⊥)
-      → (let m = meantOf (a .mode) g in ends m (grantedOf a (old m) m o x)) ≡ written s o g x
-  unfolding grantedOf operatedOf appliedOf
-  written-is g Read x l o = refl
-  written-is g Write x l o = put-is g _ x o
-  written-is g Set x l o = put-is g _ _ o ∙ ap (λ (v : ℕ). put s g (joined v x)) (reading-is g l o)
-  written-is g Clear x l o = put-is g _ _ o ∙ ap (λ (v : ℕ). put s g (without v x)) (reading-is g l o)
-
-pointer-lt : (r : Registers) → Free r → r .wrptr < 256
-pointer-lt r f = omega (arith, f .pointer, depth-is (r .sctrdepth), depth-le (r .sctrdepth))
+pointer-lt : (r : Registers) → Free r → r .buffer .wrptr < 256
+pointer-lt r f = omega (arith, f .pointer, depth-is (r .buffer .code), depth-le (r .buffer .code))
 
 -- a granted access reaches the register of its number, answers its reading and leaves it written
-pub access-done : (s : State) (o : Operation) (n x : ℕ) → stepOf s (Access o n x) .number ≡ 0 → GrantedAt s o n x (stepOf s (Access o n x))
+pub access-done : (s : State) (a : CsrAccess) → stepOf s (Access a) .number ≡ 0 → GrantedAt s a (stepOf s (Access a))
 unfolding Accesses.focusOf
-access-done s o n x h =
-    let p = access-granted s o n x h in
+access-done s a h =
+    let p = access-granted s a h in
     let r = s .registers in
-    let q = granted-reach r n (p .1) in
-    let l : r .wrptr < 256 = pointer-lt r (free r .from (p .0)) in
+    let g = registerOf (a .number) in
+    let q = granted-reach r (a .number) (p .1) in
+    let l : r .buffer .wrptr < 256 = pointer-lt r (free r .from (p .0)) in
     record {
-      register = registerOf n;
+      register = g;
       reaches = q .0;
-      value = p .2 ∙ granted-value r _ _ o x ∙ reading-is s (registerOf n) l (q .1);
-      state = p .3 ∙ written-is s (registerOf n) o x l (q .1);
+      value = p .2 ∙ granted-value r _ _ (a .operation) (a .operand) ∙ reading-is s g l (q .2) (q .1);
+      state = p .3 ∙ written-is s g (a .operation) (a .operand) l (q .2) (q .1);
     }
 
 -- SCTRCLR and the host
 pub clear-done : (s : State) → stepOf s Sctrclr .number ≡ 0 → (stepOf s Sctrclr .value ≡ 0) × (stepOf s Sctrclr .state ≡ withZeros s)
 unfolding stepOf decidedOf focusIn decideOf eventOf focusOf sctrclrOf appliedOf
-clear-done s = go (goodOf (s .registers)) (eqb (refusalOf (s .registers) sctrclrTarget) 0) refl
+clear-done s = go (goodOf (s .registers)) (isAccepted v) refl
   where
-    n : ℕ
-    n = refusalOf (s .registers) sctrclrTarget
+    v : Verdict
+    v = refusalOf (s .registers) sctrclrFacts
 
     d : Bool → Bool → Decision
-    d b c = if b then (if c then answeredClear (s .registers) else refused (s .registers) n) else refused (s .registers) 5
+    d b c = if b then (if c then answeredClear (s .registers) else refused (s .registers) v) else refused (s .registers) BadState
 
-    go : (b c : Bool) → eqb n 0 ≡ c → d b c .number ≡ 0
+    go : (b c : Bool) → isAccepted v ≡ c → d b c .number ≡ 0
         → (d b c .value ≡ 0) × (stateOf (d b c .registers) (appliedOf (entriesIn s) (d b c .effect) (focusIn s Sctrclr)) ≡ withZeros s)
     go true true e h = (refl, refl)
-    go true false e h = absurd (eqb-false n 0 e h)
+    go true false e h = absurd (not-accepted v e h)
     go false c e h = absurd (omega (arith, h))
 
-pub host-done : (s : State) (m h : Bool) → stepOf s (Host m h) .number ≡ 0
-    → (stepOf s (Host m h) .value ≡ 0) × (stepOf s (Host m h) .state ≡ withStateen m h s)
+pub host-done : (s : State) (h : Enables) → stepOf s (Host h) .number ≡ 0
+    → (stepOf s (Host h) .value ≡ 0) × (stepOf s (Host h) .state ≡ withEnables h s)
 unfolding stepOf decidedOf focusIn decideOf eventOf focusOf hostOf appliedOf
-host-done s m h = go (goodOf (s .registers))
+host-done s h = go (goodOf (s .registers))
   where
     d : Bool → Decision
-    d b = if b then answered (Regs.withStateen (s .registers) m h) 0 else refused (s .registers) 5
+    d b = if b then answered (Regs.withEnables (s .registers) h) 0 else refused (s .registers) BadState
 
     go : (b : Bool) → d b .number ≡ 0
-        → (d b .value ≡ 0) × (stateOf (d b .registers) (appliedOf (entriesIn s) (d b .effect) (focusIn s (Host m h))) ≡ withStateen m h s)
+        → (d b .value ≡ 0) × (stateOf (d b .registers) (appliedOf (entriesIn s) (d b .effect) (focusIn s (Host h))) ≡ withEnables h s)
     go true z = (refl, refl)
     go false z = absurd (omega (arith, z))

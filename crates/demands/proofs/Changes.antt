@@ -11,17 +11,21 @@ use Rattle.bits.specs.Choice.{if_then_else_}
 use Rattle.bits.proofs.Cases.{known}
 use Rattle.machine.specs.declared.Entry.{Entry}
 use Rattle.machine.specs.declared.Registers.{Registers}
-use Rattle.csr.specs.declared.Register.{Register}
-use Rattle.csr.specs.declared.Register.the-variants.{Mctrctl, Sctrctl, Vsctrctl, Sctrdepth, Sctrstatus, Siselect, Vsiselect, Sireg, Vsireg, Unlisted}
-use Rattle.access.specs.declared.Operation.{Operation}
-use Rattle.access.specs.declared.Operation.the-variants.{Read, Write, Set, Clear}
+use Rattle.csr.specs.declared.Csr.{Csr}
+use Rattle.csr.specs.declared.Csr.the-variants.{Control, Select, Ireg, Depth, Status, Unlisted}
+use Rattle.csr.specs.declared.View.{View}
+use Rattle.csr.specs.declared.View.the-variants.{Machine, Supervisor, Guest}
+use Rattle.machine.specs.declared.CsrAccess.{CsrAccess}
+use Rattle.machine.specs.declared.Operation.{Operation}
+use Rattle.machine.specs.declared.Operation.the-variants.{Read, Write, Set, Clear}
 use Rattle.recorder.specs.Entries.{Entries, entryAt, withEntry}
 use Rattle.recorder.specs.Steps.{stateOf, entriesIn}
-use Rattle.recorder.specs.declared.Event.{Event}
-use Rattle.recorder.specs.declared.Event.the-variants.{Retired, Trap, TrapReturn, Access, Sctrclr, Host}
+use Rattle.machine.specs.declared.Event.{Event}
+use Rattle.machine.specs.declared.Event.the-variants.{Retired, Trap, TrapReturn, Access, Sctrclr, Host}
 use Rattle.recorder.specs.declared.State.{State}
 use Rattle.recorder.specs.declared.Stepped.{Stepped}
 use Rattle.demands.specs.States.{depth}
+use Rattle.demands.specs.Registers as Registers
 use Rattle.demands.specs.Registers.{Reaches, selected, physical, changedAt, ctrsourceTo, ctrtargetTo, ctrdataTo, putAt, put}
 use Rattle.demands.specs.Steps.{Asked, Window, Outside, Step1, Step2, Step3, Step4, Step5, Step6}
 use Rattle.demands.specs.Transfers.{recordOf, withoutV, withRecord, withPop, withSwap, withFreeze, withMove}
@@ -72,7 +76,7 @@ transfer-changes s e t i a n = go (upto4 (t .value) (a .no-other))
     go (is-1 v) =
         let q = a .qualifies .0 v in
         ended s (t .state) (withRecord s e) i (a .recorded .0 v)
-        (put-at s (withRecord s e .registers) (r .wrptr) i (recordOf r e) (λ h. Cause.recorded (q .0) (q .1) h))
+        (put-at s (withRecord s e .registers) (r .buffer .wrptr) i (recordOf r e) (λ h. Cause.recorded (q .0) (q .1) h))
     go (is-2 v) =
         let q = a .pops .0 v in
         ended s (t .state) (withPop s) i (a .popped .0 v)
@@ -84,9 +88,12 @@ transfer-changes s e t i a n = go (upto4 (t .value) (a .no-other))
     go (is-4 v) = ended s (t .state) (withFreeze s e) i (a .frozen v) (inl refl)
 
 -- an access that is answered has its selection in the window
-in-window : (r : Registers) (o : Operation) (n x : ℕ) {g : Register} → NotRefused r (Access o n x) → Reaches n g → Outside r g → ⊥
-in-window r o n x a p q = a .found (inr (not-2, not-3, not-4, not-5, Step6.outside p q))
+in-window : (r : Registers) (c : CsrAccess) {g : Csr} → NotRefused r (Access c) → Reaches (c .number) g → Outside r g → ⊥
+in-window r c a p q = a .found (inr (not-2, not-3, not-4, not-5, Step6.outside p q))
   where
+    n : ℕ
+    n = c .number
+
     not-1 : Step1 r (Asked.number n) → ⊥
     not-1 (Step1.unlisted h) = h _ p
 
@@ -102,68 +109,69 @@ in-window r o n x a p q = a .found (inr (not-2, not-3, not-4, not-5, Step6.outsi
     not-5 : Step5 r (Asked.number n) → ⊥
     not-5 k = a .not-virtual (not-1, not-2, not-3, inr k)
 
--- a write to a word of the selected entry, by sireg* or vsireg*
-module _ (s : State) (selection i : ℕ) (w : Window selection) (g : ℕ → Register)
-    (c : (k j : ℕ) → k < 3 → selection ≡ 0x200 + j → j < depth (s .registers .sctrdepth)
-    → Selects (s .registers) (g k) (physical (s .registers) j)) where
-  changed : (k : ℕ) → k < 3 → (f : Entry → Entry) → Same s (changedAt s selection f) i ⊎ Selects (s .registers) (g k) i
+-- a write to a word of the selected entry
+module _ (s : State) (v : View) (i : ℕ) (w : Window (selected (s .registers) v)) where
+  abbrev selection : ℕ
+  selection = selected (s .registers) v
+
+  changed : (k : ℕ) → k < 3 → (f : Entry → Entry) → Same s (changedAt s selection f) i ⊎ Selects (s .registers) (Ireg v k) i
   changed k l f = go (ltb j d) refl
     where
       j : ℕ
       j = selection - 0x200
 
       d : ℕ
-      d = depth (s .registers .sctrdepth)
+      d = depth (s .registers .buffer .code)
 
-      chosen : ltb j d ≡ true → i ≡ physical (s .registers) j → Selects (s .registers) (g k) i
-      chosen h e = subst (Selects (s .registers) (g k)) (sym e) (c k j l (omega (arith, w .from)) (ltb-true j d h))
+      chosen : ltb j d ≡ true → i ≡ physical (s .registers) j → Selects (s .registers) (Ireg v k) i
+      chosen h e = subst (Selects (s .registers) (Ireg v k)) (sym e) (Selects.ireg l (omega (arith, w .from)) (ltb-true j d h))
 
       go : (b : Bool) → ltb j d ≡ b
           → (let p = physical (s .registers) j in
           Same s (if b then stateOf (s .registers) (withEntry (entriesIn s) p (f (entryAt (entriesIn s) p))) else s) i)
-          ⊎ Selects (s .registers) (g k) i
+          ⊎ Selects (s .registers) (Ireg v k) i
       go true h = put-at s (s .registers) (physical (s .registers) j) i _ (chosen h)
       go false h = inl refl
 
-  word-changes : (k x : ℕ) → Same s (putAt s selection k x) i ⊎ Selects (s .registers) (g k) i
+  word-changes : (k x : ℕ) → Same s (putAt s selection k x) i ⊎ Selects (s .registers) (Ireg v k) i
   word-changes zero x = changed 0 (omega arith) (ctrsourceTo x)
   word-changes (suc zero) x = changed 1 (omega arith) (ctrtargetTo x)
   word-changes (suc (suc zero)) x = changed 2 (omega arith) (ctrdataTo x)
   word-changes (suc (suc (suc k))) x = inl refl
 
-put-changes : (s : State) (g : Register) (x i : ℕ) → (Outside (s .registers) g → ⊥)
-    → Same s (put s g x) i ⊎ Selects (s .registers) g i
-put-changes s Mctrctl x i o = inl refl
-put-changes s Sctrctl x i o = inl refl
-put-changes s Vsctrctl x i o = inl refl
-put-changes s Sctrdepth x i o = inl refl
-put-changes s Sctrstatus x i o = inl refl
-put-changes s Siselect x i o = inl refl
-put-changes s Vsiselect x i o = inl refl
-put-changes s (Sireg k) x i o =
-    let r = s .registers in
-    word-changes s (selected r (r .mode)) i (holds (window (selected r (r .mode))) (λ n. o (Outside.sireg n))) Sireg
-    (λ k j l e m. Selects.sireg l e m) k x
-put-changes s (Vsireg k) x i o =
-    let r = s .registers in
-    word-changes s (r .vsiselect) i (holds (window (r .vsiselect)) (λ n. o (Outside.vsireg n))) Vsireg
-    (λ k j l e m. Selects.vsireg l e m) k x
+put-changes : (s : State) (g : Csr) (x i : ℕ) → (Outside (s .registers) g → ⊥) → Same s (put s g x) i ⊎ Selects (s .registers) g i
+put-changes s (Control Machine) x i o = inl refl
+put-changes s (Control Supervisor) x i o = inl refl
+put-changes s (Control Guest) x i o = inl refl
+put-changes s (Select v) x i o = inl refl
+put-changes s (Ireg v k) x i o = word-changes s v i (holds (window (selected (s .registers) v)) (λ n. o (Outside.ireg n))) k x
+put-changes s Depth x i o = inl refl
+put-changes s Status x i o = inl refl
 put-changes s Unlisted x i o = inl refl
 
-written : (s : State) (o : Operation) (n x : ℕ) (t : Stepped) (i : ℕ) → NotRefused (s .registers) (Access o n x)
-    → (p : GrantedAt s o n x t) → Writes o → (y : ℕ) → t .state ≡ put s (p .register) y
-    → Same s (t .state) i ⊎ Cause (s .registers) i (Access o n x)
-written s o n x t i a p w y h =
+written : (s : State) (c : CsrAccess) (t : Stepped) (i : ℕ) → NotRefused (s .registers) (Access c)
+    → (p : GrantedAt s c t) → Writes (c .operation) → (y : ℕ) → t .state ≡ put s (p .register) y
+    → Same s (t .state) i ⊎ Cause (s .registers) i (Access c)
+written s c t i a p w y h =
     ended s (t .state) (put s (p .register) y) i h
-    (⊎-elim (λ q. inl q) (λ c. inr (Cause.written a w (p .reaches) c))
-    (put-changes s (p .register) y i (in-window (s .registers) o n x a (p .reaches))))
+    (⊎-elim (λ q. inl q) (λ q. inr (Cause.written a w (p .reaches) q))
+    (put-changes s (p .register) y i (in-window (s .registers) c a (p .reaches))))
 
-access-changes : (s : State) (o : Operation) (n x : ℕ) (t : Stepped) (i : ℕ) → NotRefused (s .registers) (Access o n x)
-    → GrantedAt s o n x t → Same s (t .state) i ⊎ Cause (s .registers) i (Access o n x)
-access-changes s Read n x t i a p = inl (ap (λ (u : State). entryAt (entriesIn u) i) (p .state))
-access-changes s Write n x t i a p = written s Write n x t i a p Writes.write _ (p .state)
-access-changes s Set n x t i a p = written s Set n x t i a p Writes.set-bits _ (p .state)
-access-changes s Clear n x t i a p = written s Clear n x t i a p Writes.clear-bits _ (p .state)
+access-changes : (s : State) (c : CsrAccess) (t : Stepped) (i : ℕ) → NotRefused (s .registers) (Access c)
+    → GrantedAt s c t → Same s (t .state) i ⊎ Cause (s .registers) i (Access c)
+access-changes s c t i a p = go (c .operation) refl
+  where
+    state : (o : Operation) → c .operation ≡ o → t .state ≡ Registers.written s o (p .register) (c .operand)
+    state o e = p .state ∙ ap (λ (q : Operation). Registers.written s q (p .register) (c .operand)) e
+
+    by : (o : Operation) → c .operation ≡ o → Writes o → Writes (c .operation)
+    by o e w = subst Writes (sym e) w
+
+    go : (o : Operation) → c .operation ≡ o → Same s (t .state) i ⊎ Cause (s .registers) i (Access c)
+    go Read e = inl (ap (λ (u : State). entryAt (entriesIn u) i) (state Read e))
+    go Write e = written s c t i a p (by Write e Writes.write) _ (state Write e)
+    go Set e = written s c t i a p (by Set e Writes.set-bits) _ (state Set e)
+    go Clear e = written s c t i a p (by Clear e Writes.clear-bits) _ (state Clear e)
 
 pub accounted : Accounted
 accounted f a b s e i = ⊎-elim (λ z. go e (b .events s e) z (a s e .zero .0 z)) refused (known (f s e .number) 0)
@@ -173,9 +181,9 @@ accounted f a b s e i = ⊎-elim (λ z. go e (b .events s e) z (a s e .zero .0 z
 
     go : (e : Event) → Demand2At s e (f s e) → f s e .number ≡ 0 → NotRefused (s .registers) e
         → Same s (f s e .state) i ⊎ Cause (s .registers) i e
-    go (Retired word pc target taken) d z q = transfer-changes s _ _ i d z
-    go (Trap to interrupt cause epc handler) d z q = transfer-changes s _ _ i d z
-    go (TrapReturn to pc target) d z q = transfer-changes s _ _ i d z
-    go (Access o n x) d z q = access-changes s o n x _ i q (d z)
+    go (Retired w) d z q = transfer-changes s _ _ i d z
+    go (Trap x) d z q = transfer-changes s _ _ i d z
+    go (TrapReturn x) d z q = transfer-changes s _ _ i d z
+    go (Access c) d z q = access-changes s c _ i q (d z)
     go Sctrclr d z q = inr (Cause.cleared q)
-    go (Host m h) d z q = ended s _ _ i (d z .1) (inl refl)
+    go (Host h) d z q = ended s _ _ i (d z .1) (inl refl)

@@ -5,8 +5,9 @@ use Rattle.bits.specs.Words as Words
 use Rattle.classifier.specs.Transfers as Classifier
 use Rattle.classifier.proofs.Vectors.{vectors}
 use Rattle.machine.specs.Controls as Controls
+use Rattle.machine.specs.Entries as EntryBits
 use Rattle.machine.specs.Modes as Modes
-use Rattle.machine.specs.Filters as Filters
+use Rattle.qualifying.specs.Filters as Filters
 use Rattle.machine.specs.Regs as Regs
 use Rattle.machine.specs.declared.Mode.the-variants.{M}
 use Rattle.csr.specs.Numbers as Numbers
@@ -15,18 +16,18 @@ use Rattle.access.specs.Readings as Readings
 use Rattle.access.specs.Writes as Writes
 use Rattle.access.specs.Accesses as Accesses
 use Rattle.transfers.specs.Records as Records
-use Rattle.transfers.specs.Outcomes as Outcomes
+use Rattle.qualifying.specs.Outcomes as Outcomes
 use Rattle.transfers.specs.Transfers as Transfers
 use Rattle.recorder.specs.Events as Events
 use Rattle.recorder.specs.Decisions as Decisions
 use Rattle.recorder.specs.Entries as Entries
 use Rattle.recorder.specs.Steps as Steps
 use Rattle.recorder.specs.Steps.{stateOf, stepOf, resetState}
-use Rattle.recorder.specs.declared.Event.{Event}
-use Rattle.recorder.specs.declared.Event.the-variants.{Retired, Host}
+use Rattle.machine.specs.declared.Event.{Event}
+use Rattle.machine.specs.declared.Event.the-variants.{Retired, Host}
 use Rattle.recorder.specs.declared.State.{State}
 use Rattle.demands.specs.States.{zeros}
-use Rattle.demands.specs.Runs as Runs
+use Rattle.recorder.specs.Runs as Runs
 use Rattle.demands.specs.BenchTable as Bench
 use Rattle.demands.specs.BenchTable.{BenchTable}
 use Rattle.demands.specs.Useless as Useless
@@ -34,11 +35,21 @@ use Rattle.demands.specs.Useless as Useless
 -- M with M on, depth 16, no entry yet; and a call
 abbrev pub fresh : State
 fresh =
-    stateOf (record { mode = M; mctrctl = 4; vsctrctl = 0; sctrdepth = 0; wrptr = 0; frozen = false; siselect = 0; vsiselect = 0; mstateen0 = false; hstateen0 = false })
+    stateOf (record {
+      mode = M;
+      controls = record { mctrctl = 4; vsctrctl = 0 };
+      buffer = record { code = 0; wrptr = 0; frozen = false };
+      selects = record { siselect = 0; vsiselect = 0 };
+      enables = record { mstateen0 = false; hstateen0 = false };
+    })
     zeros
 
 abbrev pub call : Event
-call = Retired 0x000000EF 0x1000 0x2000 false
+call = Retired (record { word = 0x000000EF; pc = 0x1000; target = 0x2000; taken = false })
+
+-- the host's event
+abbrev pub host : Event
+host = Host (record { mstateen0 = true; hstateen0 = true })
 
 -- the same with that call recorded
 abbrev pub later : State
@@ -50,10 +61,10 @@ Shown =
     (stepOf fresh call .value ≡ 1)
     × (stepOf later call .value ≡ 1)
     × (Useless.allZero (later .ctrsource) ≡ false)
-    × (stepOf resetState (Host true true) .number ≡ 0)
+    × (stepOf resetState host .number ≡ 0)
 
 pub computed : BenchTable × Shown
-unfolding Words.keep Words.joined Classifier.transferOf Controls.isSet Modes.controlOf Modes.onOf Modes.governingOf Filters.freezesOf Filters.externalToS Filters.externalToM Filters.externalOf Filters.inhibitedOf Regs.depthOf Regs.physicalOf Regs.goodOf Numbers.registerOf Numbers.supervisorRegister Numbers.guestRegister Numbers.meantOf AccessSteps.firstStep AccessSteps.gatedOf AccessSteps.inWindow AccessSteps.outsideOf AccessSteps.refusalOf AccessSteps.step2 AccessSteps.step3 AccessSteps.step5 AccessSteps.targetOf Readings.entryReading Readings.isEntry Readings.readingOf Readings.statusOf Readings.wordOf Writes.entryWritten Writes.sctrctlWritten Writes.sctrdepthWritten Writes.sctrstatusWritten Writes.withWord Writes.writeOf Accesses.operatedOf Accesses.grantedOf Accesses.accessTo Accesses.accessOf Accesses.focusOf Accesses.hostOf Records.entryFor Records.sidePc Records.popped Records.advanced Records.retreated Outcomes.rasemuOf Outcomes.onOutcome Outcomes.retiredOutcome Outcomes.trapBy Outcomes.trapOutcome Outcomes.returnBy Outcomes.returnOutcome Transfers.focusOf Transfers.doneOf Transfers.retiredOf Transfers.crossing Transfers.takenTrap Transfers.trapOf Transfers.takenReturn Transfers.returnOf Events.transferIn Events.retiredFocus Events.focusOf Decisions.eventOf Decisions.decideOf Entries.appliedOf Steps.focusIn Steps.decidedOf Steps.stepOf Steps.resetState Runs.answersTo Runs.endOf Bench.noneRefused Useless.allZero
+unfolding Words.keep Words.joined Classifier.transferOf Controls.isSet EntryBits.definedOf Modes.controlOf Modes.onOf Modes.governingOf Filters.freezesOf Filters.externalToS Filters.externalToM Filters.externalOf Filters.inhibitBit Filters.inhibitedOf Regs.depthOf Regs.physicalOf Regs.goodBuffer Regs.goodControls Regs.goodOf Numbers.registerOf Numbers.supervisorRegister Numbers.guestRegister Numbers.viewIn Numbers.meantOf AccessSteps.firstStep AccessSteps.inWindow AccessSteps.refusalOf AccessSteps.step2 AccessSteps.step3 AccessSteps.step5 AccessSteps.factsOf Readings.controlReading Readings.entryReading Readings.isEntry Readings.readingOf Readings.statusOf Readings.storedOf Readings.wordOf Writes.controlWritten Writes.selectWritten Writes.depthWritten Writes.statusWritten Writes.registersWritten Writes.withStored Writes.withWord Writes.entryWritten Writes.effectWritten Accesses.operandOf Accesses.writeOf Accesses.operatedOf Accesses.grantedOf Accesses.accessTo Accesses.accessOf Accesses.focusOf Accesses.hostOf Records.entryFor Records.sidePc Records.popped Records.advanced Records.retreated Outcomes.rasemuOf Outcomes.onOutcome Outcomes.retiredOutcome Outcomes.trapBy Outcomes.trapOutcome Outcomes.returnBy Outcomes.returnOutcome Transfers.focusOf Transfers.doneOf Transfers.retiredOf Transfers.crossing Transfers.takenTrap Transfers.trapOf Transfers.takenReturn Transfers.returnOf Events.transferIn Events.retiredFocus Events.focusOf Decisions.eventOf Decisions.decideOf Entries.appliedOf Steps.focusIn Steps.decidedOf Steps.stepOf Steps.resetState Runs.answersTo Runs.endOf Bench.noneRefused Useless.allZero
 computed = (
   (vectors, ((refl, refl, refl), refl), ((refl, refl, refl), refl), (refl, refl, refl), refl, ((refl, refl, refl), refl), refl, (refl, refl, refl), refl, refl, ((refl, refl, refl), refl), ((refl, refl, refl), refl), ((refl, refl, refl), refl), ((refl, refl, refl), refl), (refl, refl, refl), refl, (refl, refl, refl), refl, (refl, refl, refl), refl, refl, refl, (refl, refl, refl), refl, refl),
   (refl, refl, refl, refl),

@@ -5,9 +5,9 @@ use mathlib.Core.Logic.{⊎-elim}
 use native.Mathlib.Omega.{arith}
 use borrow.Author.Tests.{eqb-false}
 use Rattle.bits.proofs.Cases.{known}
-use Rattle.csr.specs.declared.Register.{Register}
-use Rattle.recorder.specs.declared.Event.{Event}
-use Rattle.recorder.specs.declared.Event.the-variants.{Retired, Trap, TrapReturn, Access, Sctrclr, Host}
+use Rattle.csr.specs.declared.Csr.{Csr}
+use Rattle.machine.specs.declared.Event.{Event}
+use Rattle.machine.specs.declared.Event.the-variants.{Retired, Trap, TrapReturn, Access, Sctrclr, Host}
 use Rattle.recorder.specs.declared.State.{State}
 use Rattle.recorder.specs.declared.Stepped.{Stepped}
 use Rattle.demands.specs.Registers.{reading, written}
@@ -69,16 +69,18 @@ both : (t u : Stepped) (v : ℕ) (x : State) → (t .value ≡ v) × (t .state �
 both t u v x p q = (p .0 ∙ sym (q .0), p .1 ∙ sym (q .1))
 
 answered : (s : State) (e : Event) (t u : Stepped) → Demand2At s e t → Demand2At s e u → t .number ≡ 0 → u .number ≡ 0 → Rest t u
-answered s (Retired word pc target taken) t u a b m n = transfer s _ t u a b m n
-answered s (Trap to interrupt cause epc handler) t u a b m n = transfer s _ t u a b m n
-answered s (TrapReturn to pc target) t u a b m n = transfer s _ t u a b m n
-answered s (Access o number x) t u a b m n =
+answered s (Retired w) t u a b m n = transfer s _ t u a b m n
+answered s (Trap x) t u a b m n = transfer s _ t u a b m n
+answered s (TrapReturn x) t u a b m n = transfer s _ t u a b m n
+answered s (Access c) t u a b m n =
     let p = a m in
     let q = b n in
-    let e = sym (reaches-is (p .reaches) .0) ∙ reaches-is (q .reaches) .0 in
-    (p .value ∙ ap (reading s) e ∙ sym (q .value), p .state ∙ ap (λ (g : Register). written s o g x) e ∙ sym (q .state))
+    let e = sym (reaches-is (p .reaches) .0) ∙ reaches-is (q .reaches) .0 in (
+      p .value ∙ ap (reading s) e ∙ sym (q .value),
+      p .state ∙ ap (λ (g : Csr). written s (c .operation) g (c .operand)) e ∙ sym (q .state),
+    )
 answered s Sctrclr t u a b m n = both t u _ _ (a m) (b n)
-answered s (Host x h) t u a b m n = both t u _ _ (a m) (b n)
+answered s (Host h) t u a b m n = both t u _ _ (a m) (b n)
 
 pub determined : Determined
 determined s e t u t1 t2 u1 u2 =

@@ -4,6 +4,7 @@ use mathlib.Core.Path.{_≡_, refl}
 use mathlib.Core.Bool.{Bool, true, false}
 use mathlib.Core.Logic.{_⊎_, inl, inr, ⊎-elim, _↔_}
 use native.Mathlib.Omega.{arith}
+use Rattle.machine.specs.Answers.{numberOf}
 use Rattle.csr.specs.Steps.{firstStep}
 use Rattle.demands.proofs.Decides.{Decides, no}
 
@@ -26,7 +27,7 @@ module _ (A B C D E F : Type 0) where
     three : n ≡ 3 → Three → First n
 
   pub first : (a b c d e f : Bool) → Decides A a → Decides B b → Decides C c → Decides D d → Decides E e → Decides F f
-      → First (firstStep a b c d e f)
+      → First (numberOf (firstStep a b c d e f))
   unfolding firstStep
   first true b c d e f p q r s t u = three refl (inl (p .from refl))
   first false true c d e f p q r s t u = one refl (no p refl, inl (q .from refl))

@@ -36,7 +36,7 @@ good-free r h =
     let g = parts r h in
     record {
       code = leb-true _ _ (g .code);
-      pointer = rw (depth-is (r .sctrdepth)) at (ltb-true (r .wrptr) (depthOf (r .sctrdepth)) (g .pointer));
+      pointer = rw (depth-is (r .buffer .code)) at (ltb-true (r .buffer .wrptr) (depthOf (r .buffer .code)) (g .pointer));
       mctrctl = within _ _ (eqb-true _ _ (g .control));
       vsctrctl = within _ _ (eqb-true _ _ (g .guest));
     }
@@ -46,7 +46,7 @@ free-good r f =
     whole r
     (record {
       code = le-leb _ _ (f .code);
-      pointer = lt-ltb (r .wrptr) (depthOf (r .sctrdepth)) (rw (depth-is (r .sctrdepth)) (f .pointer));
+      pointer = lt-ltb (r .buffer .wrptr) (depthOf (r .buffer .code)) (rw (depth-is (r .buffer .code)) (f .pointer));
       control = eq-eqb _ _ (masked _ _ (f .mctrctl));
       guest = eq-eqb _ _ (masked _ _ (f .vsctrctl));
     })

@@ -8,27 +8,29 @@ use borrow.Author.Tests.{eqb-false}
 use Rattle.bits.specs.Choice.{if_then_else_}
 use Rattle.bits.proofs.Cases.{known}
 use Rattle.classifier.specs.declared.Transfer.{Transfer}
-use Rattle.machine.specs.Answers.{refused}
+use Rattle.machine.specs.Answers.{numberOf, refused}
 use Rattle.machine.specs.Regs.{goodOf}
 use Rattle.machine.specs.declared.Registers.{Registers}
 use Rattle.machine.specs.declared.Entry.{Entry}
 use Rattle.machine.specs.declared.Decision.{Decision}
+use Rattle.machine.specs.declared.Verdict.{Verdict}
+use Rattle.machine.specs.declared.Verdict.the-variants.{ChangeNotPossible, BadState}
 use Rattle.csr.specs.Numbers.{registerOf}
-use Rattle.csr.specs.Steps.{targetOf, sctrclrTarget}
+use Rattle.csr.specs.Steps.{factsOf, sctrclrFacts}
 use Rattle.csr.proofs.Refusals.{refusals}
 use Rattle.access.specs.Accesses.{accessOf, sctrclrOf, hostOf}
 use Rattle.access.specs.Laws.{Unchanged}
 use Rattle.access.proofs.Laws.{laws}
-use Rattle.transfers.specs.Changes.{possibleTrap, possibleReturn}
+use Rattle.qualifying.specs.Changes.{possibleTrap, possibleReturn}
 use Rattle.transfers.specs.Transfers.{doneOf, retiredOf, takenTrap, trapOf, takenReturn, returnOf}
-use Rattle.transfers.specs.declared.Outcome.{Outcome}
-use Rattle.transfers.specs.declared.Outcome.the-variants.{Nothing, Record, Pop, Swap, Freeze}
+use Rattle.machine.specs.declared.Outcome.{Outcome}
+use Rattle.machine.specs.declared.Outcome.the-variants.{Nothing, Record, Pop, Swap, Freeze}
 use Rattle.transfers.proofs.Laws.{stays-good}
 use Rattle.recorder.specs.Decisions.{eventOf, decideOf}
 use Rattle.recorder.specs.Entries.{appliedOf}
 use Rattle.recorder.specs.Steps.{decidedOf, stepOf}
-use Rattle.recorder.specs.declared.Event.{Event}
-use Rattle.recorder.specs.declared.Event.the-variants.{Retired, Trap, TrapReturn, Access, Sctrclr, Host}
+use Rattle.machine.specs.declared.Event.{Event}
+use Rattle.machine.specs.declared.Event.the-variants.{Retired, Trap, TrapReturn, Access, Sctrclr, Host}
 use Rattle.recorder.specs.declared.State.{State}
 use Rattle.demands.specs.States.{Free, Impossible}
 use Rattle.demands.specs.Demands.{NotRefused, Demand1}
@@ -39,8 +41,8 @@ use Rattle.demands.proofs.Tests.{traps, returns}
 
 -- which line of the table a decision is on
 data Line (r : Registers) (e : Event) (d : Decision) : Type 0 where
-  bad : (Free r → ⊥) → d ≡ refused r 5 → Line r e d
-  impossible : Free r → Impossible r e → stepNumber r e ≡ 0 → d ≡ refused r 4 → Line r e d
+  bad : (Free r → ⊥) → d ≡ refused r BadState → Line r e d
+  impossible : Free r → Impossible r e → stepNumber r e ≡ 0 → d ≡ refused r ChangeNotPossible → Line r e d
   step : Free r → (Impossible r e → ⊥) → (stepNumber r e ≡ 0 → ⊥) → stepNumber r e ≤ 3
       → d .number ≡ stepNumber r e → Unchanged r d → Line r e d
   answered : Free r → (Impossible r e → ⊥) → stepNumber r e ≡ 0 → d .number ≡ 0 → Line r e d
@@ -57,7 +59,7 @@ done-number r old x Freeze = refl
 -- a change of mode, by whether it is possible
 changed : (r : Registers) (e : Event) (d : Decision) (possible : Bool) {A : Type 0} → Free r → d .number ≡ 0
     → (Impossible r e → A → ⊥) → ((A → ⊥) → Impossible r e) → Decides A possible → stepNumber r e ≡ 0
-    → Line r e (if possible then d else refused r 4)
+    → Line r e (if possible then d else refused r ChangeNotPossible)
 changed r e d true f n p q t z = answered f (λ i. p i (t .from refl)) z n
 changed r e d false f n p q t z = impossible f (q (no t refl)) z refl
 
@@ -71,42 +73,38 @@ stepped r e d f i l n u =
 
 event-line : (r : Registers) (old : Entry) (t : Transfer) (e : Event) → Free r → Line r e (eventOf r old t e)
 unfolding eventOf retiredOf trapOf takenTrap returnOf takenReturn hostOf
-event-line r old t (Retired word pc target taken) f = answered f (λ i. i) refl (done-number r old _ _)
-event-line r old t (Trap to interrupt cause epc handler) f =
-    changed r (Trap to interrupt cause epc handler) (takenTrap r old to interrupt cause epc handler) _ f
-    (done-number r old _ _) (λ i p. i p) (λ i. i) (traps (r .mode) to) refl
-event-line r old t (TrapReturn to pc target) f =
-    changed r (TrapReturn to pc target) (takenReturn r old to pc target) _ f
-    (done-number r old _ _) (λ i p. i p) (λ i. i) (returns (r .mode) to) refl
-event-line r old t (Access operation number operand) f =
-    stepped r (Access operation number operand) (accessOf r old operation number operand) f (λ i. i)
-    (refusals r (targetOf r (registerOf number)) .no-other)
-    (laws .access-number r old operation number operand)
-    (laws .refused-access r old operation number operand)
+event-line r old t (Retired w) f = answered f (λ i. i) refl (done-number r old _ _)
+event-line r old t (Trap x) f =
+    changed r (Trap x) (takenTrap r old x) _ f (done-number r old _ _) (λ i p. i p) (λ i. i) (traps (r .mode) (x .mode)) refl
+event-line r old t (TrapReturn x) f =
+    changed r (TrapReturn x) (takenReturn r old x) _ f (done-number r old _ _) (λ i p. i p) (λ i. i) (returns (r .mode) (x .mode)) refl
+event-line r old t (Access a) f =
+    stepped r (Access a) (accessOf r old a) f (λ i. i) (refusals r (factsOf r (registerOf (a .number))) .no-other)
+    (laws .access-number r old a) (laws .refused-access r old a)
 event-line r old t Sctrclr f =
-    stepped r Sctrclr (sctrclrOf r) f (λ i. i) (refusals r sctrclrTarget .no-other) (laws .clear-number r) (laws .refused-clear r)
-event-line r old t (Host mstateen0 hstateen0) f = answered f (λ i. i) refl refl
+    stepped r Sctrclr (sctrclrOf r) f (λ i. i) (refusals r sctrclrFacts .no-other) (laws .clear-number r) (laws .refused-clear r)
+event-line r old t (Host h) f = answered f (λ i. i) refl refl
 
 line : (r : Registers) (old : Entry) (t : Transfer) (e : Event) → Line r e (decideOf r old t e)
 unfolding decideOf
 line r old t e = go (goodOf r) (free r)
   where
-    go : (b : Bool) → Decides (Free r) b → Line r e (if b then eventOf r old t e else refused r 5)
+    go : (b : Bool) → Decides (Free r) b → Line r e (if b then eventOf r old t e else refused r BadState)
     go true d = event-line r old t e (d .from refl)
     go false d = bad (no d refl) refl
 
 -- a refusal's number, and that nothing else changes
-number-is : (r : Registers) (d : Decision) (n : ℕ) → d ≡ refused r n → d .number ≡ n
-number-is r d n p = ap (λ (x : Decision). x .number) p
+number-is : (r : Registers) (d : Decision) (v : Verdict) → d ≡ refused r v → d .number ≡ numberOf v
+number-is r d v p = ap (λ (x : Decision). x .number) p
 
-unchanged : (r : Registers) (d : Decision) (n : ℕ) → d ≡ refused r n → Unchanged r d
-unchanged r d n p = rw p (refl, refl, refl)
+unchanged : (r : Registers) (d : Decision) (v : Verdict) → d ≡ refused r v → Unchanged r d
+unchanged r d v p = rw p (refl, refl, refl)
 
 -- the lines read off, each both ways
 module _ (r : Registers) (e : Event) (d : Decision) where
   zero-to : Line r e d → d .number ≡ 0 → NotRefused r e
-  zero-to (bad g p) h = absurd (omega (arith, number-is r d 5 p, h))
-  zero-to (impossible g i z p) h = absurd (omega (arith, number-is r d 4 p, h))
+  zero-to (bad g p) h = absurd (omega (arith, number-is r d BadState p, h))
+  zero-to (impossible g i z p) h = absurd (omega (arith, number-is r d ChangeNotPossible p, h))
   zero-to (step g i z l n u) h = absurd (z (sym n ∙ h))
   zero-to (answered g i z n) h =
       let k = step-numbers r e in
@@ -132,8 +130,8 @@ module _ (r : Registers) (e : Event) (d : Decision) where
   zero-from (answered g i z n) a = n
 
   steps-to : Line r e d → (n : ℕ) → 1 ≤ n → n ≤ 3 → d .number ≡ n → Free r × (stepNumber r e ≡ n)
-  steps-to (bad g p) n k l h = absurd (omega (arith, number-is r d 5 p, h, l))
-  steps-to (impossible g i z p) n k l h = absurd (omega (arith, number-is r d 4 p, h, l))
+  steps-to (bad g p) n k l h = absurd (omega (arith, number-is r d BadState p, h, l))
+  steps-to (impossible g i z p) n k l h = absurd (omega (arith, number-is r d ChangeNotPossible p, h, l))
   steps-to (step g i z m q u) n k l h = (g, sym q ∙ h)
   steps-to (answered g i z q) n k l h = absurd (omega (arith, q, h, k))
 
@@ -151,38 +149,38 @@ module _ (r : Registers) (e : Event) (d : Decision) where
   )
 
   four : Line r e d → d .number ≡ 4 ↔ (Free r × Impossible r e)
-  four (bad g p) = ((λ h. absurd (omega (arith, number-is r d 5 p, h))), (λ a. absurd (g (a .0))))
-  four (impossible g i z p) = ((λ h. (g, i)), (λ a. number-is r d 4 p))
+  four (bad g p) = ((λ h. absurd (omega (arith, number-is r d BadState p, h))), (λ a. absurd (g (a .0))))
+  four (impossible g i z p) = ((λ h. (g, i)), (λ a. number-is r d ChangeNotPossible p))
   four (step g i z l n u) = ((λ h. absurd (omega (arith, n, l, h))), (λ a. absurd (i (a .1))))
   four (answered g i z n) = ((λ h. absurd (omega (arith, n, h))), (λ a. absurd (i (a .1))))
 
   five : Line r e d → d .number ≡ 5 ↔ (Free r → ⊥)
-  five (bad g p) = ((λ h f. g f), (λ a. number-is r d 5 p))
-  five (impossible g i z p) = ((λ h f. omega (arith, number-is r d 4 p, h)), (λ a. absurd (a g)))
+  five (bad g p) = ((λ h f. g f), (λ a. number-is r d BadState p))
+  five (impossible g i z p) = ((λ h f. omega (arith, number-is r d ChangeNotPossible p, h)), (λ a. absurd (a g)))
   five (step g i z l n u) = ((λ h f. omega (arith, n, l, h)), (λ a. absurd (a g)))
   five (answered g i z n) = ((λ h f. omega (arith, n, h)), (λ a. absurd (a g)))
 
   at-most : Line r e d → d .number ≤ 5
-  at-most (bad g p) = omega (arith, number-is r d 5 p)
-  at-most (impossible g i z p) = omega (arith, number-is r d 4 p)
+  at-most (bad g p) = omega (arith, number-is r d BadState p)
+  at-most (impossible g i z p) = omega (arith, number-is r d ChangeNotPossible p)
   at-most (step g i z l n u) = omega (arith, n, l)
   at-most (answered g i z n) = omega (arith, n)
 
   refusal : Line r e d → (d .number ≡ 0 → ⊥) → Unchanged r d
-  refusal (bad g p) h = unchanged r d 5 p
-  refusal (impossible g i z p) h = unchanged r d 4 p
+  refusal (bad g p) h = unchanged r d BadState p
+  refusal (impossible g i z p) h = unchanged r d ChangeNotPossible p
   refusal (step g i z l n u) h = u
   refusal (answered g i z n) h = absurd (h n)
 
 -- registers free of number 5 stay so
 good-event : (r : Registers) (old : Entry) (t : Transfer) (e : Event) → goodOf r ≡ true → goodOf (eventOf r old t e .registers) ≡ true
 unfolding eventOf
-good-event r old t (Retired word pc target taken) g = stays-good r old .retired t taken pc target g
-good-event r old t (Trap to interrupt cause epc handler) g = stays-good r old .trap to interrupt cause epc handler g
-good-event r old t (TrapReturn to pc target) g = stays-good r old .trap-return to pc target g
-good-event r old t (Access operation number operand) g = laws .good-access r old operation number operand g
+good-event r old t (Retired w) g = stays-good r old .retired t w g
+good-event r old t (Trap x) g = stays-good r old .trap x g
+good-event r old t (TrapReturn x) g = stays-good r old .trap-return x g
+good-event r old t (Access a) g = laws .good-access r old a g
 good-event r old t Sctrclr g = laws .good-clear r g
-good-event r old t (Host mstateen0 hstateen0) g = laws .good-host r mstateen0 hstateen0 g
+good-event r old t (Host h) g = laws .good-host r h g
 
 good-decided : (r : Registers) (old : Entry) (t : Transfer) (e : Event) → goodOf r ≡ true → goodOf (decideOf r old t e .registers) ≡ true
 unfolding decideOf

@@ -8,13 +8,26 @@ use lib.Dec.{eqb, leb}
 use borrow.Author.Tests.{eqb-true, leb-true}
 use Rattle.bits.specs.Choice.{if_then_else_}
 use Rattle.csr.specs.Numbers.{inRange, supervisorRegister, guestRegister, registerOf}
-use Rattle.csr.specs.Steps.{isUnlisted}
-use Rattle.csr.specs.declared.Register.{Register}
-use Rattle.csr.specs.declared.Register.the-variants.{Mctrctl, Sctrctl, Vsctrctl, Sctrdepth, Sctrstatus, Siselect, Vsiselect, Sireg, Vsireg, Unlisted}
+use Rattle.csr.specs.declared.Csr.{Csr}
+use Rattle.csr.specs.declared.Csr.the-variants.{Control, Select, Ireg, Depth, Status, Unlisted}
+use Rattle.csr.specs.declared.View.the-variants.{Machine, Supervisor, Guest}
 use Rattle.demands.specs.Registers.{Reaches}
 
--- a number that reaches a register, by the definition, which lists it
-pub reaches-is : {n : ℕ} {g : Register} → Reaches n g → (registerOf n ≡ g) × (isUnlisted g ≡ false)
+-- the registers that some number reaches
+abbrev pub isThere : Csr → Bool
+isThere (Control v) = true
+isThere (Select Machine) = false
+isThere (Select Supervisor) = true
+isThere (Select Guest) = true
+isThere (Ireg Machine k) = false
+isThere (Ireg Supervisor k) = true
+isThere (Ireg Guest k) = true
+isThere Depth = true
+isThere Status = true
+isThere Unlisted = false
+
+-- a number that reaches a register, by the definition, is one of these
+pub reaches-is : {n : ℕ} {g : Csr} → Reaches n g → (registerOf n ≡ g) × (isThere g ≡ true)
 unfolding registerOf supervisorRegister guestRegister
 reaches-is Reaches.sctrctl = (refl, refl)
 reaches-is Reaches.sctrstatus = (refl, refl)
@@ -37,15 +50,15 @@ reaches-is Reaches.vsireg5 = (refl, refl)
 reaches-is Reaches.vsireg6 = (refl, refl)
 
 -- and the way back
-abbrev Found : ℕ → Register → Type 0
+abbrev Found : ℕ → Csr → Type 0
 Found n g = (g ≡ Unlisted) ⊎ Reaches n g
 
 -- a register at a number that n was found to be
-at-key : (n k : ℕ) (g : Register) → eqb n k ≡ true → Reaches k g → Found n g
+at-key : (n k : ℕ) (g : Csr) → eqb n k ≡ true → Reaches k g → Found n g
 at-key n k g h p = inr (subst (λ (j : ℕ). Reaches j g) (sym (eqb-true n k h)) p)
 
 -- three numbers in a row, the first of them j above a base
-in-row : (first base j n : ℕ) (g : ℕ → Register) → first ≡ base + j → inRange first (first + 2) n ≡ true
+in-row : (first base j n : ℕ) (g : ℕ → Csr) → first ≡ base + j → inRange first (first + 2) n ≡ true
     → Reaches first (g j) → Reaches (first + 1) (g (j + 1)) → Reaches (first + 2) (g (j + 2)) → Found n (g (n - base))
 in-row first base j n g f h a b c = go (n - first) (omega (arith, l, u)) (omega (arith, l, u))
   where
@@ -77,14 +90,14 @@ module _ (n : ℕ) where
     where
       go : (a : Bool) → eqb n 0x14E ≡ a → (b : Bool) → eqb n 0x14F ≡ b → (c : Bool) → eqb n 0x150 ≡ c
           → (d : Bool) → inRange 0x151 0x153 n ≡ d → (e : Bool) → inRange 0x155 0x157 n ≡ e → (f : Bool) → eqb n 0x15F ≡ f
-          → Found n (if a then Sctrctl else (if b then Sctrstatus else (if c then Siselect else (if d then Sireg (n - 0x151)
-          else (if e then Sireg (n - 0x152) else (if f then Sctrdepth else Unlisted))))))
-      go true p b q c r d s e t f u = at-key n 0x14E Sctrctl p Reaches.sctrctl
-      go false p true q c r d s e t f u = at-key n 0x14F Sctrstatus q Reaches.sctrstatus
-      go false p false q true r d s e t f u = at-key n 0x150 Siselect r Reaches.siselect
-      go false p false q false r true s e t f u = in-row 0x151 0x151 0 n Sireg refl s Reaches.sireg Reaches.sireg2 Reaches.sireg3
-      go false p false q false r false s true t f u = in-row 0x155 0x152 3 n Sireg refl t Reaches.sireg4 Reaches.sireg5 Reaches.sireg6
-      go false p false q false r false s false t true u = at-key n 0x15F Sctrdepth u Reaches.sctrdepth
+          → Found n (if a then Control Supervisor else (if b then Status else (if c then Select Supervisor else (if d then Ireg Supervisor (n - 0x151)
+          else (if e then Ireg Supervisor (n - 0x152) else (if f then Depth else Unlisted))))))
+      go true p b q c r d s e t f u = at-key n 0x14E (Control Supervisor) p Reaches.sctrctl
+      go false p true q c r d s e t f u = at-key n 0x14F Status q Reaches.sctrstatus
+      go false p false q true r d s e t f u = at-key n 0x150 (Select Supervisor) r Reaches.siselect
+      go false p false q false r true s e t f u = in-row 0x151 0x151 0 n (Ireg Supervisor) refl s Reaches.sireg Reaches.sireg2 Reaches.sireg3
+      go false p false q false r false s true t f u = in-row 0x155 0x152 3 n (Ireg Supervisor) refl t Reaches.sireg4 Reaches.sireg5 Reaches.sireg6
+      go false p false q false r false s false t true u = at-key n 0x15F Depth u Reaches.sctrdepth
       go false p false q false r false s false t false u = inl refl
 
   guest : Found n (guestRegister n)
@@ -93,12 +106,12 @@ module _ (n : ℕ) where
     where
       go : (a : Bool) → eqb n 0x24E ≡ a → (b : Bool) → eqb n 0x250 ≡ b
           → (d : Bool) → inRange 0x251 0x253 n ≡ d → (e : Bool) → inRange 0x255 0x257 n ≡ e
-          → Found n (if a then Vsctrctl else (if b then Vsiselect else (if d then Vsireg (n - 0x251)
-          else (if e then Vsireg (n - 0x252) else Unlisted))))
-      go true p b q d s e t = at-key n 0x24E Vsctrctl p Reaches.vsctrctl
-      go false p true q d s e t = at-key n 0x250 Vsiselect q Reaches.vsiselect
-      go false p false q true s e t = in-row 0x251 0x251 0 n Vsireg refl s Reaches.vsireg Reaches.vsireg2 Reaches.vsireg3
-      go false p false q false s true t = in-row 0x255 0x252 3 n Vsireg refl t Reaches.vsireg4 Reaches.vsireg5 Reaches.vsireg6
+          → Found n (if a then Control Guest else (if b then Select Guest else (if d then Ireg Guest (n - 0x251)
+          else (if e then Ireg Guest (n - 0x252) else Unlisted))))
+      go true p b q d s e t = at-key n 0x24E (Control Guest) p Reaches.vsctrctl
+      go false p true q d s e t = at-key n 0x250 (Select Guest) q Reaches.vsiselect
+      go false p false q true s e t = in-row 0x251 0x251 0 n (Ireg Guest) refl s Reaches.vsireg Reaches.vsireg2 Reaches.vsireg3
+      go false p false q false s true t = in-row 0x255 0x252 3 n (Ireg Guest) refl t Reaches.vsireg4 Reaches.vsireg5 Reaches.vsireg6
       go false p false q false s false t = inl refl
 
   pub reached : Found n (registerOf n)
@@ -106,15 +119,15 @@ module _ (n : ℕ) where
   reached = go (inRange 0 0x1FF n) (inRange 0x200 0x2FF n) (eqb n 0x34E) refl
     where
       go : (a b c : Bool) → eqb n 0x34E ≡ c
-          → Found n (if a then supervisorRegister n else (if b then guestRegister n else (if c then Mctrctl else Unlisted)))
+          → Found n (if a then supervisorRegister n else (if b then guestRegister n else (if c then Control Machine else Unlisted)))
       go true b c p = supervisor
       go false true c p = guest
-      go false false true p = at-key n 0x34E Mctrctl p Reaches.mctrctl
+      go false false true p = at-key n 0x34E (Control Machine) p Reaches.mctrctl
       go false false false p = inl refl
 
   -- a test that Unlisted does not pass is passed by a register that is reached
-  pub reach : (test : Register → Bool) → test Unlisted ≡ false → test (registerOf n) ≡ true → Reaches n (registerOf n)
+  pub reach : (test : Csr → Bool) → test Unlisted ≡ false → test (registerOf n) ≡ true → Reaches n (registerOf n)
   reach test z h = ⊎-elim (λ e. absurd (false≢true (sym z ∙ ap test (sym e) ∙ h))) (λ p. p) reached
 
-  pub passes : (test : Register → Bool) {g : Register} → Reaches n g → test g ≡ true → test (registerOf n) ≡ true
+  pub passes : (test : Csr → Bool) {g : Csr} → Reaches n g → test g ≡ true → test (registerOf n) ≡ true
   passes test p h = ap test (reaches-is p .0) ∙ h

@@ -1,7 +1,7 @@
 -- The definitions' tests are what the rules of specs/ say: switches, mode changes, inhibits, external bits, freezing, places.
 -- Assumes nothing.
 use Prim.Native.Nat.{ℕ, zero, suc, _+_, _-_, _%_, _≤_, _<_, min}
-use mathlib.Core.Path.{_≡_, refl, sym, ap, subst, _∙_}
+use mathlib.Core.Path.{_≡_, refl, sym, ap, _∙_}
 use mathlib.Core.Bool.{Bool, true, false, _&&_, false≢true}
 use native.Mathlib.Nat.{mod-eq-of-lt, mod-add-mod}
 use native.Mathlib.Omega.{arith}
@@ -12,35 +12,70 @@ use Rattle.bits.specs.Words.{bitAt}
 use Rattle.classifier.specs.Transfers.{typeOf}
 use Rattle.classifier.specs.declared.Transfer.{Transfer}
 use Rattle.classifier.specs.declared.Transfer.the-variants.{None, Branch, IndirectCall, DirectCall, IndirectJump, DirectJump, CoroutineSwap, FunctionReturn, OtherIndirectJump, OtherDirectJump}
-use Rattle.machine.specs.Controls.{isSet}
+use Rattle.machine.specs.Controls.{placeOf, controlWord, isSet}
 use Rattle.machine.specs.Modes.{controlOf, onOf, governingOf}
-use Rattle.machine.specs.Filters.{freezesOf, externalToS, externalToM, externalOf, inhibitedOf}
 use Rattle.machine.specs.Regs.{depthOf, physicalOf}
+use Rattle.machine.specs.declared.ControlBit.{ControlBit}
+use Rattle.machine.specs.declared.ControlBit.the-variants as Bit
+use Rattle.machine.specs.declared.ControlRegister.{ControlRegister}
+use Rattle.machine.specs.declared.ControlRegister.the-variants.{Mctrctl, Vsctrctl}
+use Rattle.machine.specs.declared.Event.the-variants.{Trap}
 use Rattle.machine.specs.declared.Mode.{Mode}
 use Rattle.machine.specs.declared.Mode.the-variants.{U, S, M, VU, VS}
 use Rattle.machine.specs.declared.Registers.{Registers}
-use Rattle.transfers.specs.Changes.{possibleTrap, possibleReturn}
-use Rattle.transfers.specs.Outcomes.{rasemuOf}
+use Rattle.machine.specs.declared.TrapTo.{TrapTo}
+use Rattle.qualifying.specs.Changes.{possibleTrap, possibleReturn}
+use Rattle.qualifying.specs.Filters.{freezesOf, externalToS, externalToM, externalOf, inhibitBit, inhibitedOf}
+use Rattle.qualifying.specs.Outcomes.{rasemuOf}
 use Rattle.transfers.specs.Records.{sidePc}
-use Rattle.recorder.specs.declared.Event.{Event}
-use Rattle.recorder.specs.declared.Event.the-variants.{Trap}
-use Rattle.demands.specs.States.{depth, Traps, Returns}
+use Rattle.demands.specs.States.{depth, place, held, bit, IsSet, Traps, Returns}
 use Rattle.demands.specs.Registers.{physical}
 use Rattle.demands.specs.Transfers.{switch, control, ofSource, RASEMU, trapType, Allows, External, Freezes, sideOf}
-use Rattle.demands.proofs.Decides.{Decides, Tested, tested}
+use Rattle.demands.proofs.Decides.{Decides, via, Tested, tested}
 
--- a bit of a control word
-pub bit : (c n : ℕ) → Tested (bitAt c n) (eqb (bitAt c n) 1)
-bit c n = tested (bitAt c n) (eqb (bitAt c n) 1) (omega arith) refl
+-- a bit of a control register
+place-is : (b : ControlBit) → placeOf b ≡ place b
+place-is Bit.U = refl
+place-is Bit.S = refl
+place-is Bit.M = refl
+place-is Bit.RASEMU = refl
+place-is Bit.STE = refl
+place-is Bit.MTE = refl
+place-is Bit.BPFRZ = refl
+place-is Bit.LCOFIFRZ = refl
+place-is Bit.EXCINH = refl
+place-is Bit.INTRINH = refl
+place-is Bit.TRETINH = refl
+place-is Bit.NTBREN = refl
+place-is Bit.TKBRINH = refl
+place-is Bit.INDCALLINH = refl
+place-is Bit.DIRCALLINH = refl
+place-is Bit.INDJMPINH = refl
+place-is Bit.DIRJMPINH = refl
+place-is Bit.CORSWAPINH = refl
+place-is Bit.RETINH = refl
+place-is Bit.INDLJMPINH = refl
+place-is Bit.DIRLJMPINH = refl
+
+word-is : (r : Registers) (c : ControlRegister) → controlWord r c ≡ held r c
+word-is r Mctrctl = refl
+word-is r Vsctrctl = refl
+
+set-is : (r : Registers) (c : ControlRegister) (b : ControlBit) → isSet r c b ≡ eqb (bit r c b) 1
+unfolding isSet
+set-is r c b = rw (word-is r c, place-is b)
+
+pub bit-is : (r : Registers) (c : ControlRegister) (b : ControlBit) → Tested (bit r c b) (isSet r c b)
+bit-is r c b = tested (bit r c b) (isSet r c b) (omega arith) (set-is r c b)
 
 -- the switch of a mode
-pub on-is : (r : Registers) (m : Mode) → onOf r m ≡ eqb (switch r m) 1
-unfolding onOf controlOf isSet
-on-is r U = refl
-on-is r S = refl
-on-is r M = refl
-on-is r VU = refl
-on-is r VS = refl
+on-is : (r : Registers) (m : Mode) → onOf r m ≡ eqb (switch r m) 1
+unfolding onOf controlOf
+on-is r U = set-is r Mctrctl Bit.U
+on-is r S = set-is r Mctrctl Bit.S
+on-is r M = set-is r Mctrctl Bit.M
+on-is r VU = set-is r Vsctrctl Bit.U
+on-is r VS = set-is r Vsctrctl Bit.S
 
 pub switch-lt : (r : Registers) (m : Mode) → switch r m < 2
 switch-lt r U = omega arith
@@ -53,22 +88,21 @@ pub mode : (r : Registers) (m : Mode) → Tested (switch r m) (onOf r m)
 mode r m = tested (switch r m) (onOf r m) (switch-lt r m) (on-is r m)
 
 -- the control register of a mode, and of a transition
-pub control-is : (r : Registers) (m : Mode) → controlOf r m ≡ control r m
+control-is : (m : Mode) → controlOf m ≡ control m
 unfolding controlOf
-control-is r U = refl
-control-is r S = refl
-control-is r M = refl
-control-is r VU = refl
-control-is r VS = refl
+control-is U = refl
+control-is S = refl
+control-is M = refl
+control-is VU = refl
+control-is VS = refl
 
-pub governing-is : (r : Registers) (to : Mode) → governingOf r (r .mode) to ≡ ofSource r
+pub governing-is : (r : Registers) (to : Mode) → governingOf (r .mode) to ≡ ofSource r
 unfolding governingOf
-governing-is r to = control-is r (r .mode)
+governing-is r to = control-is (r .mode)
 
 pub rasemu : (r : Registers) (to : Mode) → Tested (RASEMU r) (rasemuOf r (r .mode) to)
-unfolding rasemuOf isSet
-rasemu r to =
-    tested (RASEMU r) (eqb (bitAt (governingOf r (r .mode) to) 7) 1) (omega arith) (ap (λ (c : ℕ). eqb (bitAt c 7) 1) (governing-is r to))
+unfolding rasemuOf
+rasemu r to = rw (governing-is r to) (bit-is r (ofSource r) Bit.RASEMU)
 
 -- mode changes
 trap-of : {m to : Mode} → Traps m to → possibleTrap m to ≡ true
@@ -85,120 +119,101 @@ trap-of Traps.S-M = refl
 trap-of Traps.M-M = refl
 
 of-trap : (m to : Mode) → possibleTrap m to ≡ true → Traps m to
-of-trap U U h = absurd (false≢true h)
-of-trap U S h = Traps.U-S
 of-trap U M h = Traps.U-M
-of-trap U VU h = absurd (false≢true h)
-of-trap U VS h = absurd (false≢true h)
-of-trap S U h = absurd (false≢true h)
-of-trap S S h = Traps.S-S
 of-trap S M h = Traps.S-M
-of-trap S VU h = absurd (false≢true h)
-of-trap S VS h = absurd (false≢true h)
-of-trap M U h = absurd (false≢true h)
-of-trap M S h = absurd (false≢true h)
 of-trap M M h = Traps.M-M
-of-trap M VU h = absurd (false≢true h)
-of-trap M VS h = absurd (false≢true h)
-of-trap VU U h = absurd (false≢true h)
-of-trap VU S h = Traps.VU-S
 of-trap VU M h = Traps.VU-M
-of-trap VU VU h = absurd (false≢true h)
-of-trap VU VS h = Traps.VU-VS
-of-trap VS U h = absurd (false≢true h)
-of-trap VS S h = Traps.VS-S
 of-trap VS M h = Traps.VS-M
-of-trap VS VU h = absurd (false≢true h)
+of-trap U S h = Traps.U-S
+of-trap S S h = Traps.S-S
+of-trap M S h = absurd (false≢true h)
+of-trap VU S h = Traps.VU-S
+of-trap VS S h = Traps.VS-S
+of-trap U VS h = absurd (false≢true h)
+of-trap S VS h = absurd (false≢true h)
+of-trap M VS h = absurd (false≢true h)
+of-trap VU VS h = Traps.VU-VS
 of-trap VS VS h = Traps.VS-VS
-
-return-of : {m to : Mode} → Returns m to → possibleReturn m to ≡ true
-return-of Returns.M-M = refl
-return-of Returns.M-S = refl
-return-of Returns.M-U = refl
-return-of Returns.M-VS = refl
-return-of Returns.M-VU = refl
-return-of Returns.S-S = refl
-return-of Returns.S-U = refl
-return-of Returns.S-VS = refl
-return-of Returns.S-VU = refl
-return-of Returns.VS-VS = refl
-return-of Returns.VS-VU = refl
-
-of-return : (m to : Mode) → possibleReturn m to ≡ true → Returns m to
-of-return U U h = absurd (false≢true h)
-of-return U S h = absurd (false≢true h)
-of-return U M h = absurd (false≢true h)
-of-return U VU h = absurd (false≢true h)
-of-return U VS h = absurd (false≢true h)
-of-return S U h = Returns.S-U
-of-return S S h = Returns.S-S
-of-return S M h = absurd (false≢true h)
-of-return S VU h = Returns.S-VU
-of-return S VS h = Returns.S-VS
-of-return M U h = Returns.M-U
-of-return M S h = Returns.M-S
-of-return M M h = Returns.M-M
-of-return M VU h = Returns.M-VU
-of-return M VS h = Returns.M-VS
-of-return VU U h = absurd (false≢true h)
-of-return VU S h = absurd (false≢true h)
-of-return VU M h = absurd (false≢true h)
-of-return VU VU h = absurd (false≢true h)
-of-return VU VS h = absurd (false≢true h)
-of-return VS U h = absurd (false≢true h)
-of-return VS S h = absurd (false≢true h)
-of-return VS M h = absurd (false≢true h)
-of-return VS VU h = Returns.VS-VU
-of-return VS VS h = Returns.VS-VS
+of-trap m U h = absurd (false≢true h)
+of-trap m VU h = absurd (false≢true h)
 
 pub traps : (m to : Mode) → Decides (Traps m to) (possibleTrap m to)
 traps m to = record { to = trap-of; from = of-trap m to }
 
+-- a return goes the way that a trap could have come
+to-return : {m to : Mode} → Traps to m → Returns m to
+to-return Traps.M-M = Returns.M-M
+to-return Traps.S-M = Returns.M-S
+to-return Traps.U-M = Returns.M-U
+to-return Traps.VS-M = Returns.M-VS
+to-return Traps.VU-M = Returns.M-VU
+to-return Traps.S-S = Returns.S-S
+to-return Traps.U-S = Returns.S-U
+to-return Traps.VS-S = Returns.S-VS
+to-return Traps.VU-S = Returns.S-VU
+to-return Traps.VS-VS = Returns.VS-VS
+to-return Traps.VU-VS = Returns.VS-VU
+
+of-return : {m to : Mode} → Returns m to → Traps to m
+of-return Returns.M-M = Traps.M-M
+of-return Returns.M-S = Traps.S-M
+of-return Returns.M-U = Traps.U-M
+of-return Returns.M-VS = Traps.VS-M
+of-return Returns.M-VU = Traps.VU-M
+of-return Returns.S-S = Traps.S-S
+of-return Returns.S-U = Traps.U-S
+of-return Returns.S-VS = Traps.VS-S
+of-return Returns.S-VU = Traps.VU-S
+of-return Returns.VS-VS = Traps.VS-VS
+of-return Returns.VS-VU = Traps.VU-VS
+
 pub returns : (m to : Mode) → Decides (Returns m to) (possibleReturn m to)
-returns m to = record { to = return-of; from = of-return m to }
+returns m to = via to-return of-return (traps to m)
 
 -- inhibits
-pub allowed : {c n : ℕ} → Allows c n → inhibitedOf c n ≡ false
-unfolding inhibitedOf isSet
-allowed {c = c} (Allows.EXCINH h) = bit c 33 .off h
-allowed {c = c} (Allows.INTRINH h) = bit c 34 .off h
-allowed {c = c} (Allows.TRETINH h) = bit c 35 .off h
-allowed {c = c} (Allows.NTBREN h) = rw (bit c 36 .on h)
-allowed {c = c} (Allows.TKBRINH h) = bit c 37 .off h
-allowed {c = c} (Allows.INDCALLINH h) = bit c 40 .off h
-allowed {c = c} (Allows.DIRCALLINH h) = bit c 41 .off h
-allowed {c = c} (Allows.INDJMPINH h) = bit c 42 .off h
-allowed {c = c} (Allows.DIRJMPINH h) = bit c 43 .off h
-allowed {c = c} (Allows.CORSWAPINH h) = bit c 44 .off h
-allowed {c = c} (Allows.RETINH h) = bit c 45 .off h
-allowed {c = c} (Allows.INDLJMPINH h) = bit c 46 .off h
-allowed {c = c} (Allows.DIRLJMPINH h) = bit c 47 .off h
+pub allowed : {r : Registers} {c : ControlRegister} {n : ℕ} → Allows r c n → inhibitedOf r c n ≡ false
+unfolding inhibitedOf inhibitBit
+allowed {r = r} {c = c} (Allows.EXCINH h) = bit-is r c Bit.EXCINH .off h
+allowed {r = r} {c = c} (Allows.INTRINH h) = bit-is r c Bit.INTRINH .off h
+allowed {r = r} {c = c} (Allows.TRETINH h) = bit-is r c Bit.TRETINH .off h
+allowed {r = r} {c = c} (Allows.NTBREN h) = rw (bit-is r c Bit.NTBREN .on h)
+allowed {r = r} {c = c} (Allows.TKBRINH h) = bit-is r c Bit.TKBRINH .off h
+allowed {r = r} {c = c} (Allows.INDCALLINH h) = bit-is r c Bit.INDCALLINH .off h
+allowed {r = r} {c = c} (Allows.DIRCALLINH h) = bit-is r c Bit.DIRCALLINH .off h
+allowed {r = r} {c = c} (Allows.INDJMPINH h) = bit-is r c Bit.INDJMPINH .off h
+allowed {r = r} {c = c} (Allows.DIRJMPINH h) = bit-is r c Bit.DIRJMPINH .off h
+allowed {r = r} {c = c} (Allows.CORSWAPINH h) = bit-is r c Bit.CORSWAPINH .off h
+allowed {r = r} {c = c} (Allows.RETINH h) = bit-is r c Bit.RETINH .off h
+allowed {r = r} {c = c} (Allows.INDLJMPINH h) = bit-is r c Bit.INDLJMPINH .off h
+allowed {r = r} {c = c} (Allows.DIRLJMPINH h) = bit-is r c Bit.DIRLJMPINH .off h
 
-pub allows-word : (c : ℕ) (t : Transfer) (taken : Bool) → inhibitedOf c (typeOf t taken) ≡ false → Allows c (typeOf t taken)
-unfolding inhibitedOf isSet
-allows-word c None taken h = absurd (false≢true (sym h))
-allows-word c Branch true h = Allows.TKBRINH (bit c 37 .is-off h)
-allows-word c Branch false h = Allows.NTBREN (bit c 36 .is-on (not-false _ h))
-allows-word c IndirectCall taken h = Allows.INDCALLINH (bit c 40 .is-off h)
-allows-word c DirectCall taken h = Allows.DIRCALLINH (bit c 41 .is-off h)
-allows-word c IndirectJump taken h = Allows.INDJMPINH (bit c 42 .is-off h)
-allows-word c DirectJump taken h = Allows.DIRJMPINH (bit c 43 .is-off h)
-allows-word c CoroutineSwap taken h = Allows.CORSWAPINH (bit c 44 .is-off h)
-allows-word c FunctionReturn taken h = Allows.RETINH (bit c 45 .is-off h)
-allows-word c OtherIndirectJump taken h = Allows.INDLJMPINH (bit c 46 .is-off h)
-allows-word c OtherDirectJump taken h = Allows.DIRLJMPINH (bit c 47 .is-off h)
+pub allows-word : (r : Registers) (c : ControlRegister) (t : Transfer) (taken : Bool)
+    → inhibitedOf r c (typeOf t taken) ≡ false → Allows r c (typeOf t taken)
+unfolding inhibitedOf inhibitBit
+allows-word r c None taken h = absurd (false≢true (sym h))
+allows-word r c Branch true h = Allows.TKBRINH (bit-is r c Bit.TKBRINH .is-off h)
+allows-word r c Branch false h = Allows.NTBREN (bit-is r c Bit.NTBREN .is-on (not-false _ h))
+allows-word r c IndirectCall taken h = Allows.INDCALLINH (bit-is r c Bit.INDCALLINH .is-off h)
+allows-word r c DirectCall taken h = Allows.DIRCALLINH (bit-is r c Bit.DIRCALLINH .is-off h)
+allows-word r c IndirectJump taken h = Allows.INDJMPINH (bit-is r c Bit.INDJMPINH .is-off h)
+allows-word r c DirectJump taken h = Allows.DIRJMPINH (bit-is r c Bit.DIRJMPINH .is-off h)
+allows-word r c CoroutineSwap taken h = Allows.CORSWAPINH (bit-is r c Bit.CORSWAPINH .is-off h)
+allows-word r c FunctionReturn taken h = Allows.RETINH (bit-is r c Bit.RETINH .is-off h)
+allows-word r c OtherIndirectJump taken h = Allows.INDLJMPINH (bit-is r c Bit.INDLJMPINH .is-off h)
+allows-word r c OtherDirectJump taken h = Allows.DIRLJMPINH (bit-is r c Bit.DIRLJMPINH .is-off h)
 
-pub allows-trap : (c : ℕ) (interrupt : Bool) → inhibitedOf c (trapType interrupt) ≡ false → Allows c (trapType interrupt)
-unfolding inhibitedOf isSet
-allows-trap c true h = Allows.INTRINH (bit c 34 .is-off h)
-allows-trap c false h = Allows.EXCINH (bit c 33 .is-off h)
+pub allows-trap : (r : Registers) (c : ControlRegister) (interrupt : Bool)
+    → inhibitedOf r c (trapType interrupt) ≡ false → Allows r c (trapType interrupt)
+unfolding inhibitedOf inhibitBit
+allows-trap r c true h = Allows.INTRINH (bit-is r c Bit.INTRINH .is-off h)
+allows-trap r c false h = Allows.EXCINH (bit-is r c Bit.EXCINH .is-off h)
 
-pub allows-return : (c : ℕ) → inhibitedOf c 3 ≡ false → Allows c 3
-unfolding inhibitedOf isSet
-allows-return c h = Allows.TRETINH (bit c 35 .is-off h)
+pub allows-return : (r : Registers) (c : ControlRegister) → inhibitedOf r c 3 ≡ false → Allows r c 3
+unfolding inhibitedOf inhibitBit
+allows-return r c h = Allows.TRETINH (bit-is r c Bit.TRETINH .is-off h)
 
 -- in the register of the source
-pub allowed-of : (r : Registers) (to : Mode) {n : ℕ} → Allows (ofSource r) n → inhibitedOf (governingOf r (r .mode) to) n ≡ false
+pub allowed-of : (r : Registers) (to : Mode) {n : ℕ} → Allows r (ofSource r) n → inhibitedOf r (governingOf (r .mode) to) n ≡ false
 allowed-of r to h = rw (governing-is r to) (allowed h)
 
 -- external trap bits
@@ -207,68 +222,78 @@ both {a = true} {b = true} h = (refl, refl)
 both {a = true} {b = false} h = absurd (false≢true h)
 both {a = false} {b = b} h = absurd (false≢true h)
 
+module _ (r : Registers) where
+  abbrev vste : Tested (bit r Vsctrctl Bit.STE) (isSet r Vsctrctl Bit.STE)
+  vste = bit-is r Vsctrctl Bit.STE
+
+  abbrev ste : Tested (bit r Mctrctl Bit.STE) (isSet r Mctrctl Bit.STE)
+  ste = bit-is r Mctrctl Bit.STE
+
+  abbrev mte : Tested (bit r Mctrctl Bit.MTE) (isSet r Mctrctl Bit.MTE)
+  mte = bit-is r Mctrctl Bit.MTE
+
 pub external-set : {r : Registers} {m to : Mode} → External r m to → externalOf r m to ≡ true
-unfolding externalOf externalToM externalToS isSet
-external-set {r = r} (External.VU-VS v) = bit (r .vsctrctl) 8 .on v
-external-set {r = r} (External.VS-VS v) = bit (r .vsctrctl) 8 .on v
-external-set {r = r} (External.U-S s) = bit (r .mctrctl) 8 .on s
-external-set {r = r} (External.S-S s) = bit (r .mctrctl) 8 .on s
-external-set {r = r} (External.VS-S s) = bit (r .mctrctl) 8 .on s
-external-set {r = r} (External.VU-S v s) = rw (bit (r .vsctrctl) 8 .on v, bit (r .mctrctl) 8 .on s)
-external-set {r = r} (External.S-M m) = bit (r .mctrctl) 9 .on m
-external-set {r = r} (External.M-M m) = bit (r .mctrctl) 9 .on m
-external-set {r = r} (External.U-M s m) = rw (bit (r .mctrctl) 8 .on s, bit (r .mctrctl) 9 .on m)
-external-set {r = r} (External.VS-M s m) = rw (bit (r .mctrctl) 8 .on s, bit (r .mctrctl) 9 .on m)
-external-set {r = r} (External.VU-M v s m) = rw (bit (r .vsctrctl) 8 .on v, bit (r .mctrctl) 8 .on s, bit (r .mctrctl) 9 .on m)
+unfolding externalOf externalToM externalToS
+external-set {r = r} (External.VU-VS v) = vste r .on v
+external-set {r = r} (External.VS-VS v) = vste r .on v
+external-set {r = r} (External.U-S s) = ste r .on s
+external-set {r = r} (External.S-S s) = ste r .on s
+external-set {r = r} (External.VS-S s) = ste r .on s
+external-set {r = r} (External.VU-S v s) = rw (vste r .on v, ste r .on s)
+external-set {r = r} (External.S-M m) = mte r .on m
+external-set {r = r} (External.M-M m) = mte r .on m
+external-set {r = r} (External.U-M s m) = rw (ste r .on s, mte r .on m)
+external-set {r = r} (External.VS-M s m) = rw (ste r .on s, mte r .on m)
+external-set {r = r} (External.VU-M v s m) = rw (vste r .on v, ste r .on s, mte r .on m)
 
 pub external-is : (r : Registers) {m to : Mode} → Traps m to → externalOf r m to ≡ true → External r m to
-unfolding externalOf externalToM externalToS isSet
-external-is r Traps.VU-VS h = External.VU-VS (bit (r .vsctrctl) 8 .is-on h)
-external-is r Traps.VS-VS h = External.VS-VS (bit (r .vsctrctl) 8 .is-on h)
-external-is r Traps.U-S h = External.U-S (bit (r .mctrctl) 8 .is-on h)
-external-is r Traps.S-S h = External.S-S (bit (r .mctrctl) 8 .is-on h)
-external-is r Traps.VS-S h = External.VS-S (bit (r .mctrctl) 8 .is-on h)
-external-is r Traps.VU-S h =
-    let b = both h in
-    External.VU-S (bit (r .vsctrctl) 8 .is-on (b .0)) (bit (r .mctrctl) 8 .is-on (b .1))
-external-is r Traps.S-M h = External.S-M (bit (r .mctrctl) 9 .is-on h)
-external-is r Traps.M-M h = External.M-M (bit (r .mctrctl) 9 .is-on h)
-external-is r Traps.U-M h = let b = both h in External.U-M (bit (r .mctrctl) 8 .is-on (b .0)) (bit (r .mctrctl) 9 .is-on (b .1))
-external-is r Traps.VS-M h = let b = both h in External.VS-M (bit (r .mctrctl) 8 .is-on (b .0)) (bit (r .mctrctl) 9 .is-on (b .1))
+unfolding externalOf externalToM externalToS
+external-is r Traps.VU-VS h = External.VU-VS (vste r .is-on h)
+external-is r Traps.VS-VS h = External.VS-VS (vste r .is-on h)
+external-is r Traps.U-S h = External.U-S (ste r .is-on h)
+external-is r Traps.S-S h = External.S-S (ste r .is-on h)
+external-is r Traps.VS-S h = External.VS-S (ste r .is-on h)
+external-is r Traps.VU-S h = let b = both h in External.VU-S (vste r .is-on (b .0)) (ste r .is-on (b .1))
+external-is r Traps.S-M h = External.S-M (mte r .is-on h)
+external-is r Traps.M-M h = External.M-M (mte r .is-on h)
+external-is r Traps.U-M h = let b = both h in External.U-M (ste r .is-on (b .0)) (mte r .is-on (b .1))
+external-is r Traps.VS-M h = let b = both h in External.VS-M (ste r .is-on (b .0)) (mte r .is-on (b .1))
 external-is r Traps.VU-M h =
     let b = both h in
     let a = both (b .0) in
-    External.VU-M (bit (r .vsctrctl) 8 .is-on (a .0)) (bit (r .mctrctl) 8 .is-on (a .1)) (bit (r .mctrctl) 9 .is-on (b .1))
+    External.VU-M (vste r .is-on (a .0)) (ste r .is-on (a .1)) (mte r .is-on (b .1))
 
 -- freezing traps
-pub freezes-set : {r : Registers} {to : Mode} {interrupt : Bool} {cause epc handler : ℕ}
-    → Freezes r (Trap to interrupt cause epc handler) → freezesOf r to interrupt cause ≡ true
-unfolding freezesOf isSet
-freezes-set {r = r} {to = to} (Freezes.BPFRZ p h) = rw (control-is r to) (bit (control r to) 11 .on h)
-freezes-set {r = r} {to = to} (Freezes.LCOFIFRZ p h) = rw (control-is r to) (bit (control r to) 12 .on h)
+pub freezes-set : {r : Registers} {t : TrapTo} → Freezes r (Trap t) → freezesOf r t ≡ true
+unfolding freezesOf
+freezes-set {r = r} {t = t} (Freezes.BPFRZ p i c h) = rw (i, c, control-is (t .mode)) (bit-is r (control (t .mode)) Bit.BPFRZ .on h)
+freezes-set {r = r} {t = t} (Freezes.LCOFIFRZ p i c h) = rw (i, c, control-is (t .mode)) (bit-is r (control (t .mode)) Bit.LCOFIFRZ .on h)
 
 -- a bit asked of one cause alone
-asked : (c n k cause : ℕ) → (if eqb cause k then eqb (bitAt c n) 1 else false) ≡ true → (cause ≡ k) × (bitAt c n ≡ 1)
-asked c n k cause h = go (eqb cause k) refl h
+asked : (k cause : ℕ) (set : Bool) → (if eqb cause k then set else false) ≡ true → (cause ≡ k) × (set ≡ true)
+asked k cause set h = go (eqb cause k) refl h
   where
-    go : (b : Bool) → eqb cause k ≡ b → (if b then eqb (bitAt c n) 1 else false) ≡ true → (cause ≡ k) × (bitAt c n ≡ 1)
-    go true e q = (eqb-true _ _ e, bit c n .is-on q)
+    go : (b : Bool) → eqb cause k ≡ b → (if b then set else false) ≡ true → (cause ≡ k) × (set ≡ true)
+    go true e q = (eqb-true _ _ e, q)
     go false e q = absurd (false≢true q)
 
-pub freezes-is : (r : Registers) (to : Mode) (interrupt : Bool) (cause epc handler : ℕ)
-    → Traps (r .mode) to → freezesOf r to interrupt cause ≡ true → Freezes r (Trap to interrupt cause epc handler)
-unfolding freezesOf isSet
-freezes-is r to true cause epc handler p h =
-    let a = asked (control r to) 12 13 cause (rw (control-is r to) at h) in
-    subst (λ (k : ℕ). Freezes r (Trap to true k epc handler)) (sym (a .0)) (Freezes.LCOFIFRZ p (a .1))
-freezes-is r to false cause epc handler p h =
-    let a = asked (control r to) 11 3 cause (rw (control-is r to) at h) in
-    subst (λ (k : ℕ). Freezes r (Trap to false k epc handler)) (sym (a .0)) (Freezes.BPFRZ p (a .1))
+freezes-is : (r : Registers) (t : TrapTo) → Traps (r .mode) (t .mode) → freezesOf r t ≡ true → Freezes r (Trap t)
+unfolding freezesOf
+freezes-is r t p h = go (t .interrupt) refl h
+  where
+    in-control : (b : ControlBit) → isSet r (controlOf (t .mode)) b ≡ true → IsSet r (control (t .mode)) b
+    in-control b q = bit-is r (control (t .mode)) b .is-on (rw (control-is (t .mode)) at q)
 
-pub freezes : (r : Registers) (to : Mode) (interrupt : Bool) (cause epc handler : ℕ) → Traps (r .mode) to
-    → Decides (Freezes r (Trap to interrupt cause epc handler)) (freezesOf r to interrupt cause)
-freezes r to interrupt cause epc handler p =
-    record { to = freezes-set; from = freezes-is r to interrupt cause epc handler p }
+    go : (i : Bool) → t .interrupt ≡ i
+        → (if i
+        then (if eqb (t .cause) 13 then isSet r (controlOf (t .mode)) Bit.LCOFIFRZ else false)
+        else (if eqb (t .cause) 3 then isSet r (controlOf (t .mode)) Bit.BPFRZ else false)) ≡ true
+        → Freezes r (Trap t)
+    go true e q = let a = asked 13 (t .cause) _ q in Freezes.LCOFIFRZ p e (a .0) (in-control Bit.LCOFIFRZ (a .1))
+    go false e q = let a = asked 3 (t .cause) _ q in Freezes.BPFRZ p e (a .0) (in-control Bit.BPFRZ (a .1))
+
+pub freezes : (r : Registers) (t : TrapTo) → Traps (r .mode) (t .mode) → Decides (Freezes r (Trap t)) (freezesOf r t)
+freezes r t p = record { to = freezes-set; from = freezes-is r t p }
 
 -- the depth
 pub depth-is : (c : ℕ) → depthOf c ≡ depth c
@@ -285,13 +310,13 @@ depth-ge (suc (suc zero)) = omega arith
 depth-ge (suc (suc (suc n))) = omega arith
 
 -- logical entries
-pub physical-is : (r : Registers) (i : ℕ) → i < depth (r .sctrdepth) → physicalOf (r .sctrdepth) (r .wrptr) i ≡ physical r i
+pub physical-is : (r : Registers) (i : ℕ) → i < depth (r .buffer .code) → physicalOf (r .buffer .code) (r .buffer .wrptr) i ≡ physical r i
 unfolding physicalOf
 physical-is r i h =
-    let d = depth (r .sctrdepth) in
-    let g = depth-ge (r .sctrdepth) in
-    rw (depth-is (r .sctrdepth), mod-eq-of-lt h)
-    (mod-add-mod (r .wrptr) d (d - 1 - i) ∙ ap (λ (x : ℕ). x % d) (omega arith))
+    let d = depth (r .buffer .code) in
+    let g = depth-ge (r .buffer .code) in
+    rw (depth-is (r .buffer .code), mod-eq-of-lt h)
+    (mod-add-mod (r .buffer .wrptr) d (d - 1 - i) ∙ ap (λ (x : ℕ). x % d) (omega arith))
 
 -- the address of a side
 pub side-is : (r : Registers) (m : Mode) (pc : ℕ) → sidePc r m pc ≡ sideOf (switch r m) pc

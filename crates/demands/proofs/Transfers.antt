@@ -7,27 +7,30 @@ use native.Mathlib.Nat.{mod-eq-of-lt}
 use native.Mathlib.Omega.{arith}
 use Rattle.bits.specs.Choice.{if_then_else_}
 use Rattle.classifier.specs.Transfers.{transferOf, typeOf}
-use Rattle.machine.specs.Filters.{inhibitedOf}
+use Rattle.qualifying.specs.Filters.{inhibitedOf}
+use Rattle.machine.specs.Answers.{valueOf}
 use Rattle.machine.specs.Modes.{onOf, governingOf}
 use Rattle.machine.specs.Regs.{depthOf, physicalOf}
 use Rattle.machine.specs.declared.Decision.{Decision}
 use Rattle.machine.specs.declared.Entry.{Entry}
-use Rattle.machine.specs.declared.Mode.{Mode}
 use Rattle.machine.specs.declared.Registers.{Registers}
-use Rattle.transfers.specs.Changes.{possibleTrap, possibleReturn}
-use Rattle.transfers.specs.Outcomes.{stackOutcome, rasemuOf, onOutcome, retiredOutcome, trapBy, trapOutcome, returnBy, returnOutcome}
+use Rattle.machine.specs.declared.RetiredWord.{RetiredWord}
+use Rattle.machine.specs.declared.TrapTo.{TrapTo}
+use Rattle.machine.specs.declared.ReturnTo.{ReturnTo}
+use Rattle.qualifying.specs.Changes.{possibleTrap, possibleReturn}
+use Rattle.qualifying.specs.Outcomes.{stackOutcome, rasemuOf, onOutcome, retiredOutcome, trapBy, trapOutcome, returnBy, returnOutcome}
 use Rattle.transfers.specs.Records as Records
 use Rattle.transfers.specs.Records.{entryFor, advanced, retreated}
 use Rattle.transfers.specs.Transfers as Done
 use Rattle.transfers.specs.Transfers.{doneOf, retiredOf, inMode, crossing, takenTrap, trapOf, takenReturn, returnOf}
-use Rattle.transfers.specs.declared.Outcome.{Outcome}
-use Rattle.transfers.specs.declared.Outcome.the-variants.{Nothing, Record, Pop, Swap, Freeze}
+use Rattle.machine.specs.declared.Outcome.{Outcome}
+use Rattle.machine.specs.declared.Outcome.the-variants.{Nothing, Record, Pop, Swap, Freeze}
 use Rattle.recorder.specs.Decisions.{eventOf, decideOf}
 use Rattle.recorder.specs.Entries.{entryAt, withEntry, appliedOf}
 use Rattle.recorder.specs.Events.{transferIn, atWrptr, retiredFocus, focusOf}
 use Rattle.recorder.specs.Steps.{stateOf, entriesIn, focusIn, decidedOf, stepOf}
-use Rattle.recorder.specs.declared.Event.{Event}
-use Rattle.recorder.specs.declared.Event.the-variants.{Retired, Trap, TrapReturn, Access, Sctrclr, Host}
+use Rattle.machine.specs.declared.Event.{Event}
+use Rattle.machine.specs.declared.Event.the-variants.{Retired, Trap, TrapReturn, Access, Sctrclr, Host}
 use Rattle.recorder.specs.declared.State.{State}
 use Rattle.demands.specs.States.{depth, Free, Traps, Returns, Impossible, wrptrTo}
 use Rattle.demands.specs.Registers.{physical}
@@ -40,14 +43,7 @@ use Rattle.demands.proofs.Outcomes.{outcomeIn, Says, says, qualifies-ou
 use Rattle.demands.proofs.Pointer.{up-moves, down-moves, up-is-not-down}
 use Rattle.demands.proofs.Tests.{traps, returns, depth-is, depth-ge, physical-is, side-is}
 
--- the value of an outcome, and the outcome of a value
-abbrev valueOf : Outcome → ℕ
-valueOf Nothing = 0
-valueOf Record = 1
-valueOf Pop = 2
-valueOf Swap = 3
-valueOf Freeze = 4
-
+-- the outcome of a value
 abbrev withValue : ℕ → Outcome
 withValue zero = Nothing
 withValue (suc zero) = Record
@@ -74,12 +70,12 @@ value-le Freeze = omega arith
 
 -- retired words, traps and trap returns
 abbrev pub IsTransfer : Event → Type 0
-IsTransfer (Retired word pc target taken) = Unit {0}
-IsTransfer (Trap to interrupt cause epc handler) = Unit {0}
-IsTransfer (TrapReturn to pc target) = Unit {0}
-IsTransfer (Access operation number operand) = ⊥
+IsTransfer (Retired w) = Unit {0}
+IsTransfer (Trap t) = Unit {0}
+IsTransfer (TrapReturn t) = Unit {0}
+IsTransfer (Access a) = ⊥
 IsTransfer Sctrclr = ⊥
-IsTransfer (Host mstateen0 hstateen0) = ⊥
+IsTransfer (Host h) = ⊥
 
 -- the state after an outcome
 abbrev pub stateFor : State → Event → Outcome → State
@@ -95,11 +91,11 @@ Does s e d at o =
     (d .value ≡ valueOf o) × (stateOf (d .registers) (appliedOf (entriesIn s) (d .effect) at) ≡ stateFor s e o)
 
 -- WRPTR is below the depth
-at-pointer : (r : Registers) → Free r → r .wrptr % depthOf (r .sctrdepth) ≡ r .wrptr
-at-pointer r f = rw (depth-is (r .sctrdepth)) (mod-eq-of-lt (f .pointer))
+at-pointer : (r : Registers) → Free r → r .buffer .wrptr % depthOf (r .buffer .code) ≡ r .buffer .wrptr
+at-pointer r f = rw (depth-is (r .buffer .code)) (mod-eq-of-lt (f .pointer))
 
-at-newest : (r : Registers) → physicalOf (r .sctrdepth) (r .wrptr) 0 ≡ physical r 0
-at-newest r = physical-is r 0 (omega (arith, depth-ge (r .sctrdepth)))
+at-newest : (r : Registers) → physicalOf (r .buffer .code) (r .buffer .wrptr) 0 ≡ physical r 0
+at-newest r = physical-is r 0 (omega (arith, depth-ge (r .buffer .code)))
 
 -- WRPTR goes down to where logical entry 0 is
 pop-down : (s : State)
@@ -108,38 +104,40 @@ pop-down s =
     let r = s .registers in
     let p = physical r 0 in
     ap (λ (w : ℕ). stateOf (wrptrTo w r) (withEntry (entriesIn s) p (withoutV (entryAt (entriesIn s) p))))
-    (ap (λ (x : ℕ). x % depth (r .sctrdepth)) (omega arith))
+    (ap (λ (x : ℕ). x % depth (r .buffer .code)) (omega arith))
 
-retired-does : (s : State) (word pc target : ℕ) (taken : Bool) → Free (s .registers) → (o : Outcome)
-    → Does s (Retired word pc target taken)
-    (doneOf (s .registers) (entryAt (entriesIn s) (Done.focusOf (s .registers) o)) (entryFor pc target (typeOf (transferOf word) taken)) o)
-    (Done.focusOf (s .registers) o) o
+-- the record of a retired word
+abbrev entryOf : RetiredWord → Entry
+entryOf w = entryFor (w .pc) (w .target) (typeOf (transferOf (w .word)) (w .taken))
+
+retired-does : (s : State) (w : RetiredWord) → Free (s .registers) → (o : Outcome)
+    → Does s (Retired w) (doneOf (s .registers) (entryAt (entriesIn s) (Done.focusOf (s .registers) o)) (entryOf w) o) (Done.focusOf (s .registers) o) o
 unfolding doneOf Done.focusOf appliedOf entryFor advanced retreated Records.popped
-retired-does s word pc target taken f Nothing = (refl, refl)
-retired-does s word pc target taken f Record = (refl, rw (at-pointer (s .registers) f, depth-is (s .registers .sctrdepth)))
-retired-does s word pc target taken f Pop = (refl, rw (at-newest (s .registers)) (pop-down s))
-retired-does s word pc target taken f Swap = (refl, rw (at-newest (s .registers)))
-retired-does s word pc target taken f Freeze = (refl, refl)
+retired-does s w f Nothing = (refl, refl)
+retired-does s w f Record = (refl, rw (at-pointer (s .registers) f, depth-is (s .registers .buffer .code)))
+retired-does s w f Pop = (refl, rw (at-newest (s .registers)) (pop-down s))
+retired-does s w f Swap = (refl, rw (at-newest (s .registers)))
+retired-does s w f Freeze = (refl, refl)
 
 -- a possible trap or return: nothing, a record or a freeze
 module _ (s : State) (e : Event) (f : Free (s .registers)) where
   abbrev decision : Entry → Outcome → Decision
   decision old o = inMode (doneOf (s .registers) old (recordOf (s .registers) e) o) (modeAfter (s .registers) e)
 
-  moves : (old : Entry) → Does s e (decision old Nothing) (atWrptr (s .registers)) Nothing
+  moves : (old : Entry) → Does s e (decision old Nothing) (atWrptr (s .registers .buffer)) Nothing
   unfolding doneOf appliedOf
   moves old = (refl, refl)
 
-  records : (old : Entry) → Does s e (decision old Record) (atWrptr (s .registers)) Record
+  records : (old : Entry) → Does s e (decision old Record) (atWrptr (s .registers .buffer)) Record
   unfolding doneOf appliedOf advanced
-  records old = (refl, rw (at-pointer (s .registers) f, depth-is (s .registers .sctrdepth)))
+  records old = (refl, rw (at-pointer (s .registers) f, depth-is (s .registers .buffer .code)))
 
-  freezes : (old : Entry) → Does s e (decision old Freeze) (atWrptr (s .registers)) Freeze
+  freezes : (old : Entry) → Does s e (decision old Freeze) (atWrptr (s .registers .buffer)) Freeze
   unfolding doneOf appliedOf
   freezes old = (refl, refl)
 
   abbrev Crosses : Entry → Outcome → Type 0
-  Crosses old o = Does s e (decision old o) (atWrptr (s .registers)) o
+  Crosses old o = Does s e (decision old o) (atWrptr (s .registers .buffer)) o
 
   trap-does : (old : Entry) (fz fr ra so ta inh ext : Bool) → Crosses old (trapBy fz fr ra so ta inh ext)
   unfolding trapBy
@@ -166,68 +164,67 @@ Steps s e =
     (stepOf s e .value ≡ valueOf (outcomeIn (s .registers) e)) × (stepOf s e .state ≡ stateFor s e (outcomeIn (s .registers) e))
 
 -- the entry that a retired word is about is the one that its outcome is about, if that puts one
-retired-at : (s : State) (word pc target : ℕ) (taken : Bool) → Free (s .registers) → (on fr ra inh : Bool)
-    → (let t = transferOf word in
+retired-at : (s : State) (w : RetiredWord) → Free (s .registers) → (on fr ra inh : Bool)
+    → (let t = transferOf (w .word) in
     let o = if on && not fr then onOutcome ra inh t else Nothing in
-    let at = if ra then Done.focusOf (s .registers) (stackOutcome t) else atWrptr (s .registers) in
-    Does s (Retired word pc target taken) (doneOf (s .registers) (entryAt (entriesIn s) at) (entryFor pc target (typeOf t taken)) o) at o)
+    let at = if ra then Done.focusOf (s .registers) (stackOutcome t) else atWrptr (s .registers .buffer) in
+    Does s (Retired w) (doneOf (s .registers) (entryAt (entriesIn s) at) (entryOf w) o) at o)
 unfolding onOutcome doneOf Done.focusOf appliedOf
-retired-at s word pc target taken f true false true inh = retired-does s word pc target taken f (stackOutcome (transferOf word))
-retired-at s word pc target taken f true false false true = (refl, refl)
-retired-at s word pc target taken f true false false false = retired-does s word pc target taken f Record
-retired-at s word pc target taken f true true ra inh = (refl, refl)
-retired-at s word pc target taken f false fr ra inh = (refl, refl)
+retired-at s w f true false true inh = retired-does s w f (stackOutcome (transferOf (w .word)))
+retired-at s w f true false false true = (refl, refl)
+retired-at s w f true false false false = retired-does s w f Record
+retired-at s w f true true ra inh = (refl, refl)
+retired-at s w f false fr ra inh = (refl, refl)
 
-retired-steps : (s : State) (word pc target : ℕ) (taken : Bool) → Free (s .registers) → Steps s (Retired word pc target taken)
+retired-steps : (s : State) (w : RetiredWord) → Free (s .registers) → Steps s (Retired w)
 unfolding stepOf decidedOf focusIn decideOf eventOf focusOf retiredFocus transferIn retiredOf retiredOutcome outcomeIn
-retired-steps s word pc target taken f =
+retired-steps s w f =
     let r = s .registers in
     let m = r .mode in
     rw (free r .to f)
-    (retired-at s word pc target taken f (onOf r m) (r .frozen) (rasemuOf r m m)
-    (inhibitedOf (governingOf r m m) (typeOf (transferOf word) taken)))
+    (retired-at s w f (onOf r m) (r .buffer .frozen) (rasemuOf r m m) (inhibitedOf r (governingOf m m) (typeOf (transferOf (w .word)) (w .taken))))
 
-trap-steps : (s : State) (to : Mode) (interrupt : Bool) (cause epc handler : ℕ) → Free (s .registers)
-    → Traps (s .registers .mode) to → Steps s (Trap to interrupt cause epc handler)
+trap-steps : (s : State) (t : TrapTo) → Free (s .registers) → Traps (s .registers .mode) (t .mode) → Steps s (Trap t)
 unfolding stepOf decidedOf focusIn decideOf eventOf focusOf transferIn trapOf takenTrap crossing entryFor trapOutcome outcomeIn
-trap-steps s to interrupt cause epc handler f p =
-    rw (free (s .registers) .to f, traps (s .registers .mode) to .to p, side-is (s .registers) (s .registers .mode) epc, side-is (s .registers) to handler) (trap-does s (Trap to interrupt cause epc handler) f _ _ _ _ _ _ _ _)
+trap-steps s t f p =
+    let r = s .registers in
+    rw (free r .to f, traps (r .mode) (t .mode) .to p, side-is r (r .mode) (t .epc), side-is r (t .mode) (t .handler)) (trap-does s (Trap t) f _ _ _ _ _ _ _ _)
 
-return-steps : (s : State) (to : Mode) (pc target : ℕ) → Free (s .registers)
-    → Returns (s .registers .mode) to → Steps s (TrapReturn to pc target)
+return-steps : (s : State) (t : ReturnTo) → Free (s .registers) → Returns (s .registers .mode) (t .mode) → Steps s (TrapReturn t)
 unfolding stepOf decidedOf focusIn decideOf eventOf focusOf transferIn returnOf takenReturn crossing entryFor returnOutcome outcomeIn
-return-steps s to pc target f p =
-    rw (free (s .registers) .to f, returns (s .registers .mode) to .to p, side-is (s .registers) (s .registers .mode) pc, side-is (s .registers) to target) (return-does s (TrapReturn to pc target) f _ _ _ _ _)
+return-steps s t f p =
+    let r = s .registers in
+    rw (free r .to f, returns (r .mode) (t .mode) .to p, side-is r (r .mode) (t .pc), side-is r (t .mode) (t .target)) (return-does s (TrapReturn t) f _ _ _ _ _)
 
 -- what is done with a possible change of mode, and that nothing comes of an impossible one
 steps : (s : State) (e : Event) → IsTransfer e → Free (s .registers) → (Impossible (s .registers) e → ⊥) → Steps s e
-steps s (Retired word pc target taken) k f i = retired-steps s word pc target taken f
-steps s (Trap to interrupt cause epc handler) k f i = trap-steps s to interrupt cause epc handler f (holds (traps (s .registers .mode) to) i)
-steps s (TrapReturn to pc target) k f i = return-steps s to pc target f (holds (returns (s .registers .mode) to) i)
-steps s (Access operation number operand) k f i = absurd k
+steps s (Retired w) k f i = retired-steps s w f
+steps s (Trap t) k f i = trap-steps s t f (holds (traps (s .registers .mode) (t .mode)) i)
+steps s (TrapReturn t) k f i = return-steps s t f (holds (returns (s .registers .mode) (t .mode)) i)
+steps s (Access a) k f i = absurd k
 steps s Sctrclr k f i = absurd k
-steps s (Host mstateen0 hstateen0) k f i = absurd k
+steps s (Host h) k f i = absurd k
 
 impossible-nothing : (r : Registers) (e : Event) → Impossible r e → outcomeIn r e ≡ Nothing
 unfolding outcomeIn
-impossible-nothing r (Retired word pc target taken) i = absurd i
-impossible-nothing r (Trap to interrupt cause epc handler) i = rw (fails (traps (r .mode) to) i)
-impossible-nothing r (TrapReturn to pc target) i = rw (fails (returns (r .mode) to) i)
-impossible-nothing r (Access operation number operand) i = absurd i
+impossible-nothing r (Retired w) i = absurd i
+impossible-nothing r (Trap t) i = rw (fails (traps (r .mode) (t .mode)) i)
+impossible-nothing r (TrapReturn t) i = rw (fails (returns (r .mode) (t .mode)) i)
+impossible-nothing r (Access a) i = absurd i
 impossible-nothing r Sctrclr i = absurd i
-impossible-nothing r (Host mstateen0 hstateen0) i = absurd i
+impossible-nothing r (Host h) i = absurd i
 
 -- whether a change of mode is impossible, by whether it is possible
 impossible-or : {A : Type 0} → A ⊎ (A → ⊥) → (A → ⊥) ⊎ ((A → ⊥) → ⊥)
 impossible-or p = ⊎-elim (λ a. inr (λ i. i a)) (λ n. inl n) p
 
 impossible-or-not : (r : Registers) (e : Event) → Impossible r e ⊎ (Impossible r e → ⊥)
-impossible-or-not r (Retired word pc target taken) = inr (λ i. i)
-impossible-or-not r (Trap to interrupt cause epc handler) = impossible-or (or-not (traps (r .mode) to))
-impossible-or-not r (TrapReturn to pc target) = impossible-or (or-not (returns (r .mode) to))
-impossible-or-not r (Access operation number operand) = inr (λ i. i)
+impossible-or-not r (Retired w) = inr (λ i. i)
+impossible-or-not r (Trap t) = impossible-or (or-not (traps (r .mode) (t .mode)))
+impossible-or-not r (TrapReturn t) = impossible-or (or-not (returns (r .mode) (t .mode)))
+impossible-or-not r (Access a) = inr (λ i. i)
 impossible-or-not r Sctrclr = inr (λ i. i)
-impossible-or-not r (Host mstateen0 hstateen0) = inr (λ i. i)
+impossible-or-not r (Host h) = inr (λ i. i)
 
 -- the state after tells a record and a pop from all else, by WRPTR
 module _ (s : State) (e : Event) where
@@ -235,16 +232,16 @@ module _ (s : State) (e : Event) where
   r = s .registers
 
   abbrev pointer : State → ℕ
-  pointer t = t .registers .wrptr
+  pointer t = t .registers .buffer .wrptr
 
-  stands-up : {A : Type 0} → r .wrptr ≡ oneUp r → A
-  stands-up h = absurd (up-moves (r .wrptr) (depth (r .sctrdepth)) (omega (arith, depth-ge (r .sctrdepth))) h)
+  stands-up : {A : Type 0} → r .buffer .wrptr ≡ oneUp r → A
+  stands-up h = absurd (up-moves (r .buffer .wrptr) (depth (r .buffer .code)) (omega (arith, depth-ge (r .buffer .code))) h)
 
-  stands-down : {A : Type 0} → r .wrptr ≡ oneDown r → A
-  stands-down h = absurd (down-moves (r .wrptr) (depth (r .sctrdepth)) (omega (arith, depth-ge (r .sctrdepth))) h)
+  stands-down : {A : Type 0} → r .buffer .wrptr ≡ oneDown r → A
+  stands-down h = absurd (down-moves (r .buffer .wrptr) (depth (r .buffer .code)) (omega (arith, depth-ge (r .buffer .code))) h)
 
   up-down : {A : Type 0} → Free r → oneUp r ≡ oneDown r → A
-  up-down f h = absurd (up-is-not-down (r .wrptr) (depth (r .sctrdepth)) (omega (arith, depth-ge (r .sctrdepth))) (f .pointer) h)
+  up-down f h = absurd (up-is-not-down (r .buffer .wrptr) (depth (r .buffer .code)) (omega (arith, depth-ge (r .buffer .code))) (f .pointer) h)
 
   is-record : Free r → (o : Outcome) → stateFor s e o ≡ withRecord s e → o ≡ Record
   is-record f Nothing h = stands-up (ap pointer h)
@@ -270,8 +267,8 @@ refused-transfers s e z v t n =
       swaps = never Swap swaps-outcome (omega arith);
       freezes = never Freeze freezes-outcome (omega arith);
       no-other = omega (arith, v);
-      recorded = ((λ h. absurd (omega (arith, v, h))), (λ h. stands-up s e (ap (λ (x : State). x .registers .wrptr) (sym t ∙ h))));
-      popped = ((λ h. absurd (omega (arith, v, h))), (λ h. stands-down s e (ap (λ (x : State). x .registers .wrptr) (sym t ∙ h))));
+      recorded = ((λ h. absurd (omega (arith, v, h))), (λ h. stands-up s e (ap (λ (x : State). x .registers .buffer .wrptr) (sym t ∙ h))));
+      popped = ((λ h. absurd (omega (arith, v, h))), (λ h. stands-down s e (ap (λ (x : State). x .registers .buffer .wrptr) (sym t ∙ h))));
       swapped = (λ h. absurd (omega (arith, v, h)));
       frozen = (λ h. absurd (omega (arith, v, h)));
       nothing = (λ h k. absurd (n h));

@@ -3,12 +3,11 @@
 use mathlib.Core.Path.{_≡_, refl, sym, ap, _∙_}
 use native.Mathlib.Omega.{arith}
 use Rattle.recorder.specs.Steps.{resetState}
-use Rattle.recorder.specs.declared.Event.the-variants.{Host}
 use Rattle.recorder.specs.declared.State.{State}
 use mathlib.Core.Bool.{true}
 use Prim.Native.Nat.{ℕ}
 use Rattle.demands.specs.Useless.{coasts, saysOne, Useless}
-use Rattle.demands.proofs.Computed.{fresh, call, later, Shown, computed}
+use Rattle.demands.proofs.Computed.{fresh, call, host, later, Shown, computed}
 use Rattle.demands.proofs.Demands.{only-recorder}
 
 abbrev shown : Shown
@@ -24,7 +23,7 @@ one-stays : saysOne fresh call .state ≡ fresh
 one-stays = rw (shown .0)
 
 wrptr : State → ℕ
-wrptr t = t .registers .wrptr
+wrptr t = t .registers .buffer .wrptr
 
 pub useless : Useless
 unfolding wrptr
@@ -32,7 +31,7 @@ useless =
     let meets-1 = only-recorder .demand-1 in
     let meets-2 = only-recorder .demand-2 .events in
     record {
-      refuses-all = (λ d. omega (arith, d resetState (Host true true) .zero .1 (meets-1 resetState (Host true true) .zero .0 (shown .3))));
+      refuses-all = (λ d. omega (arith, d resetState host .zero .1 (meets-1 resetState host .zero .0 (shown .3))));
       says-nothing = (λ d. omega (arith, d .events fresh call .qualifies .1 (meets-2 fresh call .qualifies .0 (shown .0))));
       never-changes = (λ d. omega (arith, ap wrptr (d .events fresh call .recorded .0 (shown .0))));
       coasting = (λ d. omega (arith, coasts-says, d .events later call .qualifies .1 (meets-2 later call .qualifies .0 (shown .1))));

@@ -4,19 +4,21 @@ use Prim.Native.Nat.{ℕ, _+_, _<_}
 use mathlib.Core.Path.{_≡_}
 use mathlib.Core.Logic.{_⊎_}
 use Rattle.machine.specs.declared.Registers.{Registers}
-use Rattle.csr.specs.declared.Register.{Register}
-use Rattle.csr.specs.declared.Register.the-variants.{Sireg, Vsireg}
-use Rattle.access.specs.declared.Operation.{Operation}
-use Rattle.access.specs.declared.Operation.the-variants.{Write, Set, Clear}
+use Rattle.csr.specs.declared.Csr.{Csr}
+use Rattle.csr.specs.declared.Csr.the-variants.{Ireg}
+use Rattle.csr.specs.declared.View.{View}
+use Rattle.machine.specs.declared.CsrAccess.{CsrAccess}
+use Rattle.machine.specs.declared.Operation.{Operation}
+use Rattle.machine.specs.declared.Operation.the-variants.{Write, Set, Clear}
 use Rattle.recorder.specs.Entries.{entryAt}
 use Rattle.recorder.specs.Steps.{entriesIn}
-use Rattle.recorder.specs.declared.Event.{Event}
-use Rattle.recorder.specs.declared.Event.the-variants.{Access, Sctrclr}
+use Rattle.machine.specs.declared.Event.{Event}
+use Rattle.machine.specs.declared.Event.the-variants.{Access, Sctrclr}
 use Rattle.recorder.specs.declared.State.{State}
 use Rattle.demands.specs.States.{depth, Free}
 use Rattle.demands.specs.Registers.{Reaches, selected, physical}
 use Rattle.demands.specs.Transfers.{Qualifies, Pops, Swaps}
-use Rattle.demands.specs.Runs.{Recorder}
+use Rattle.recorder.specs.Runs.{Recorder}
 use Rattle.demands.specs.Demands.{NotRefused, Demand1, Demand2}
 
 -- an operation that writes
@@ -26,17 +28,16 @@ pub data Writes : Operation → Type 0 where
   clear-bits : Writes Clear
 
 -- an entry register selects a physical entry: its word is one of the three, and its selection 0x200 + i, i below the depth
-pub data Selects (r : Registers) : Register → ℕ → Type 0 where
-  sireg : {k i : ℕ} → k < 3 → selected r (r .mode) ≡ 0x200 + i → i < depth (r .sctrdepth) → Selects r (Sireg k) (physical r i)
-  vsireg : {k i : ℕ} → k < 3 → r .vsiselect ≡ 0x200 + i → i < depth (r .sctrdepth) → Selects r (Vsireg k) (physical r i)
+pub data Selects (r : Registers) : Csr → ℕ → Type 0 where
+  ireg : {v : View} {k i : ℕ} → k < 3 → selected r v ≡ 0x200 + i → i < depth (r .buffer .code) → Selects r (Ireg v k) (physical r i)
 
 -- what may change physical entry i
 pub data Cause (r : Registers) (i : ℕ) : Event → Type 0 where
-  recorded : {e : Event} → Free r → Qualifies r e → i ≡ r .wrptr → Cause r i e
+  recorded : {e : Event} → Free r → Qualifies r e → i ≡ r .buffer .wrptr → Cause r i e
   popped : {e : Event} → Free r → Pops r e → i ≡ physical r 0 → Cause r i e
   swapped : {e : Event} → Free r → Swaps r e → i ≡ physical r 0 → Cause r i e
-  written : {o : Operation} {n x : ℕ} {g : Register}
-      → NotRefused r (Access o n x) → Writes o → Reaches n g → Selects r g i → Cause r i (Access o n x)
+  written : {a : CsrAccess} {g : Csr}
+      → NotRefused r (Access a) → Writes (a .operation) → Reaches (a .number) g → Selects r g i → Cause r i (Access a)
   cleared : NotRefused r Sctrclr → Cause r i Sctrclr
 
 abbrev pub Accounted : Type 0

@@ -5,20 +5,21 @@ use mathlib.Core.Bool.{Bool}
 use mathlib.Core.Logic.{_↔_}
 use Rattle.classifier.specs.Promise.{HasType, wordType}
 use Rattle.machine.specs.declared.Registers.{Registers}
-use Rattle.csr.specs.declared.Register.{Register}
-use Rattle.csr.specs.declared.Register.the-variants.{Sireg, Vsireg}
-use Rattle.access.specs.declared.Operation.{Operation}
+use Rattle.csr.specs.declared.Csr.{Csr}
+use Rattle.csr.specs.declared.Csr.the-variants.{Ireg}
+use Rattle.csr.specs.declared.View.{View}
+use Rattle.machine.specs.declared.CsrAccess.{CsrAccess}
 use Rattle.recorder.specs.Entries.{entryAt}
 use Rattle.recorder.specs.Steps.{entriesIn, stepOf, resetState}
-use Rattle.recorder.specs.declared.Event.{Event}
-use Rattle.recorder.specs.declared.Event.the-variants.{Retired, Trap, TrapReturn, Access, Sctrclr, Host}
+use Rattle.machine.specs.declared.Event.{Event}
+use Rattle.machine.specs.declared.Event.the-variants.{Retired, Trap, TrapReturn, Access, Sctrclr, Host}
 use Rattle.recorder.specs.declared.State.{State}
 use Rattle.recorder.specs.declared.Stepped.{Stepped}
 use Rattle.demands.specs.States.{depth, Free, Impossible, start}
-use Rattle.demands.specs.Registers.{Reaches, selected, Logical, word, reading, written, withZeros, withStateen}
+use Rattle.demands.specs.Registers.{Reaches, selected, Logical, word, reading, written, withZeros, withEnables}
 use Rattle.demands.specs.Steps.{Illegal, Virtual, Missing}
 use Rattle.demands.specs.Transfers.{Freezes, Qualifies, Pops, Swaps, withRecord, withPop, withSwap, withFreeze, withMove}
-use Rattle.demands.specs.Runs.{Recorder}
+use Rattle.recorder.specs.Runs.{Recorder}
 
 -- none of the lines of the table of numbers but the first applies
 pub record NotRefused (r : Registers) (e : Event) : Type 0 where
@@ -61,38 +62,36 @@ pub record TransferAt (s : State) (e : Event) (t : Stepped) : Type 0 where
   pub nothing : t .number ≡ 0 → t .value ≡ 0 → t .state ≡ withMove s e
 
 -- of an access that is granted: it reaches a register by its number, the value is the old reading, and the state is the one written
-pub record GrantedAt (s : State) (o : Operation) (n x : ℕ) (t : Stepped) : Type 0 where
-  pub register : Register
-  pub reaches : Reaches n register
+pub record GrantedAt (s : State) (a : CsrAccess) (t : Stepped) : Type 0 where
+  pub register : Csr
+  pub reaches : Reaches (a .number) register
   pub value : t .value ≡ reading s register
-  pub state : t .state ≡ written s o register x
+  pub state : t .state ≡ written s (a .operation) register (a .operand)
 
 -- demand 2 of the result t. SCTRCLR zeroes all entry words, and the host sets the two bits
 abbrev pub Demand2At : State → Event → Stepped → Type 0
-Demand2At s (Retired word pc target taken) t = TransferAt s (Retired word pc target taken) t
-Demand2At s (Trap to interrupt cause epc handler) t = TransferAt s (Trap to interrupt cause epc handler) t
-Demand2At s (TrapReturn to pc target) t = TransferAt s (TrapReturn to pc target) t
-Demand2At s (Access o n x) t = t .number ≡ 0 → GrantedAt s o n x t
+Demand2At s (Retired w) t = TransferAt s (Retired w) t
+Demand2At s (Trap x) t = TransferAt s (Trap x) t
+Demand2At s (TrapReturn x) t = TransferAt s (TrapReturn x) t
+Demand2At s (Access a) t = t .number ≡ 0 → GrantedAt s a t
 Demand2At s Sctrclr t = t .number ≡ 0 → (t .value ≡ 0) × (t .state ≡ withZeros s)
-Demand2At s (Host m h) t = t .number ≡ 0 → (t .value ≡ 0) × (t .state ≡ withStateen m h s)
+Demand2At s (Host h) t = t .number ≡ 0 → (t .value ≡ 0) × (t .state ≡ withEnables h s)
 
 -- what an ireg shows as word k under a selection: at 0x200 + i, for i below the depth, logical entry i, and there is one; from the
 -- depth to 255 it reads 0
 pub record Shows (s : State) (selection k value : ℕ) : Type 0 where
-  pub entry : (i p : ℕ) → selection ≡ 0x200 + i → i < depth (s .registers .sctrdepth) → Logical (s .registers) i p
+  pub entry : (i p : ℕ) → selection ≡ 0x200 + i → i < depth (s .registers .buffer .code) → Logical (s .registers) i p
       → value ≡ word (entryAt (entriesIn s) p) k
-  pub there-is : (i : ℕ) → i < depth (s .registers .sctrdepth) → (p : ℕ) × Logical (s .registers) i p
-  pub beyond : (i : ℕ) → selection ≡ 0x200 + i → depth (s .registers .sctrdepth) ≤ i → i ≤ 255 → value ≡ 0
+  pub there-is : (i : ℕ) → i < depth (s .registers .buffer .code) → (p : ℕ) × Logical (s .registers) i p
+  pub beyond : (i : ℕ) → selection ≡ 0x200 + i → depth (s .registers .buffer .code) ≤ i → i ≤ 255 → value ≡ 0
 
 abbrev pub Demand1 : Recorder → Type 0
 Demand1 f = (s : State) (e : Event) → Demand1At s e (f s e)
 
 pub record Demand2 (f : Recorder) : Type 0 where
   pub events : (s : State) (e : Event) → Demand2At s e (f s e)
-  pub sireg : (s : State) (o : Operation) (n x k : ℕ) → Reaches n (Sireg k) → f s (Access o n x) .number ≡ 0
-      → Shows s (selected (s .registers) (s .registers .mode)) k (f s (Access o n x) .value)
-  pub vsireg : (s : State) (o : Operation) (n x k : ℕ) → Reaches n (Vsireg k) → f s (Access o n x) .number ≡ 0
-      → Shows s (s .registers .vsiselect) k (f s (Access o n x) .value)
+  pub ireg : (s : State) (a : CsrAccess) (v : View) (k : ℕ) → Reaches (a .number) (Ireg v k) → f s (Access a) .number ≡ 0
+      → Shows s (selected (s .registers) v) k (f s (Access a) .value)
   -- the type of a retired word is the number of its row in the table of words, by the classifier's promise
   pub types : (word : ℕ) (taken : Bool) (n : ℕ) → wordType word taken ≡ n ↔ HasType word taken n
 

@@ -2,7 +2,6 @@ pub mod States
 pub mod Registers
 pub mod Steps
 pub mod Transfers
-pub mod Runs
 pub mod Demands
 pub mod Demand3
 pub mod Changes

@@ -7,19 +7,21 @@ use lib.ListN.{replicate}
 use Rattle.bits.specs.Words.{bitAt}
 use Rattle.machine.specs.declared.Mode.{Mode}
 use Rattle.machine.specs.declared.Mode.the-variants.{U, S, M, VU, VS}
+use Rattle.machine.specs.declared.ControlBit.{ControlBit}
+use Rattle.machine.specs.declared.ControlBit.the-variants as Bit
+use Rattle.machine.specs.declared.ControlRegister.{ControlRegister}
+use Rattle.machine.specs.declared.ControlRegister.the-variants.{Mctrctl, Vsctrctl}
+use Rattle.machine.specs.declared.Enables.{Enables}
 use Rattle.machine.specs.declared.Registers.{Registers}
 use Rattle.recorder.specs.Entries.{Entries, entriesOf}
 use Rattle.recorder.specs.Steps.{stateOf}
-use Rattle.recorder.specs.declared.Event.{Event}
-use Rattle.recorder.specs.declared.Event.the-variants.{Retired, Trap, TrapReturn, Access, Sctrclr, Host}
+use Rattle.machine.specs.declared.Event.{Event}
+use Rattle.machine.specs.declared.Event.the-variants.{Retired, Trap, TrapReturn, Access, Sctrclr, Host}
 use Rattle.recorder.specs.declared.State.{State}
 
--- a bit of a word is 1, or it is 0
+-- a bit of a word is 1
 abbrev pub Is1 : ℕ → ℕ → Type 0
 Is1 x n = bitAt x n ≡ 1
-
-abbrev pub Is0 : ℕ → ℕ → Type 0
-Is0 x n = bitAt x n ≡ 0
 
 -- 128 entries of three words, all 384 zero
 abbrev pub zeros : Entries
@@ -28,7 +30,13 @@ zeros = entriesOf (replicate 128 0) (replicate 128 0) (replicate 128 0)
 -- at reset the mode is M and all else is 0
 abbrev pub start : State
 start =
-    stateOf (record { mode = M; mctrctl = 0; vsctrctl = 0; sctrdepth = 0; wrptr = 0; frozen = false; siselect = 0; vsiselect = 0; mstateen0 = false; hstateen0 = false })
+    stateOf (record {
+      mode = M;
+      controls = record { mctrctl = 0; vsctrctl = 0 };
+      buffer = record { code = 0; wrptr = 0; frozen = false };
+      selects = record { siselect = 0; vsiselect = 0 };
+      enables = record { mstateen0 = false; hstateen0 = false };
+    })
     zeros
 
 -- depth codes 0..3 are 16, 32, 64, 128; every other is number 5
@@ -42,12 +50,50 @@ depth (suc (suc (suc n))) = 128
 abbrev pub Within : ℕ → ℕ → Type 0
 Within mask x = (n : ℕ) → Is1 x n → Is1 mask n
 
+-- the control bits, by their places; in vsctrctl those of U, S and STE are VU, VS and VSTE
+abbrev pub place : ControlBit → ℕ
+place Bit.U = 0
+place Bit.S = 1
+place Bit.M = 2
+place Bit.RASEMU = 7
+place Bit.STE = 8
+place Bit.MTE = 9
+place Bit.BPFRZ = 11
+place Bit.LCOFIFRZ = 12
+place Bit.EXCINH = 33
+place Bit.INTRINH = 34
+place Bit.TRETINH = 35
+place Bit.NTBREN = 36
+place Bit.TKBRINH = 37
+place Bit.INDCALLINH = 40
+place Bit.DIRCALLINH = 41
+place Bit.INDJMPINH = 42
+place Bit.DIRJMPINH = 43
+place Bit.CORSWAPINH = 44
+place Bit.RETINH = 45
+place Bit.INDLJMPINH = 46
+place Bit.DIRLJMPINH = 47
+
+-- a control register, and a bit of it: 1 or 0
+abbrev pub held : Registers → ControlRegister → ℕ
+held r Mctrctl = r .controls .mctrctl
+held r Vsctrctl = r .controls .vsctrctl
+
+abbrev pub bit : Registers → ControlRegister → ControlBit → ℕ
+bit r c b = bitAt (held r c) (place b)
+
+abbrev pub IsSet : Registers → ControlRegister → ControlBit → Type 0
+IsSet r c b = bit r c b ≡ 1
+
+abbrev pub IsClear : Registers → ControlRegister → ControlBit → Type 0
+IsClear r c b = bit r c b ≡ 0
+
 -- free of number 5, which is a depth code above 3, WRPTR not below the depth, or a control bit outside its mask
 pub record Free (r : Registers) : Type 0 where
-  pub code : r .sctrdepth ≤ 3
-  pub pointer : r .wrptr < depth (r .sctrdepth)
-  pub mctrctl : Within 0x0000FF3E00001B87 (r .mctrctl)
-  pub vsctrctl : Within 0x0000FF3E00001983 (r .vsctrctl)
+  pub code : r .buffer .code ≤ 3
+  pub pointer : r .buffer .wrptr < depth (r .buffer .code)
+  pub mctrctl : Within 0x0000FF3E00001B87 (r .controls .mctrctl)
+  pub vsctrctl : Within 0x0000FF3E00001983 (r .controls .vsctrctl)
 
 -- possible traps: U to S, M; VU to VS, S, M; VS to VS, S, M; S to S, M; M to M
 pub data Traps : Mode → Mode → Type 0 where
@@ -79,47 +125,57 @@ pub data Returns : Mode → Mode → Type 0 where
 
 -- number 4: a mode change that is not possible
 abbrev pub Impossible : Registers → Event → Type 0
-Impossible r (Trap to interrupt cause epc handler) = Traps (r .mode) to → ⊥
-Impossible r (TrapReturn to pc target) = Returns (r .mode) to → ⊥
-Impossible r (Retired word pc target taken) = ⊥
-Impossible r (Access operation number operand) = ⊥
+Impossible r (Trap t) = Traps (r .mode) (t .mode) → ⊥
+Impossible r (TrapReturn t) = Returns (r .mode) (t .mode) → ⊥
+Impossible r (Retired w) = ⊥
+Impossible r (Access a) = ⊥
 Impossible r Sctrclr = ⊥
-Impossible r (Host mstateen0 hstateen0) = ⊥
+Impossible r (Host h) = ⊥
 
 -- the registers with one of them changed, and all others as they were
 abbrev pub modeTo : Mode → Registers → Registers
-modeTo m r =
-    record { mode = m; mctrctl = r .mctrctl; vsctrctl = r .vsctrctl; sctrdepth = r .sctrdepth; wrptr = r .wrptr; frozen = r .frozen; siselect = r .siselect; vsiselect = r .vsiselect; mstateen0 = r .mstateen0; hstateen0 = r .hstateen0 }
+modeTo m r = record { mode = m; controls = r .controls; buffer = r .buffer; selects = r .selects; enables = r .enables }
+
+abbrev controlsTo : ℕ → ℕ → Registers → Registers
+controlsTo m v r =
+    record { mode = r .mode; controls = record { mctrctl = m; vsctrctl = v }; buffer = r .buffer; selects = r .selects; enables = r .enables }
 
 abbrev pub mctrctlTo : ℕ → Registers → Registers
-mctrctlTo x r =
-    record { mode = r .mode; mctrctl = x; vsctrctl = r .vsctrctl; sctrdepth = r .sctrdepth; wrptr = r .wrptr; frozen = r .frozen; siselect = r .siselect; vsiselect = r .vsiselect; mstateen0 = r .mstateen0; hstateen0 = r .hstateen0 }
+mctrctlTo x r = controlsTo x (r .controls .vsctrctl) r
 
 abbrev pub vsctrctlTo : ℕ → Registers → Registers
-vsctrctlTo x r =
-    record { mode = r .mode; mctrctl = r .mctrctl; vsctrctl = x; sctrdepth = r .sctrdepth; wrptr = r .wrptr; frozen = r .frozen; siselect = r .siselect; vsiselect = r .vsiselect; mstateen0 = r .mstateen0; hstateen0 = r .hstateen0 }
+vsctrctlTo x r = controlsTo (r .controls .mctrctl) x r
 
-abbrev pub sctrdepthTo : ℕ → Registers → Registers
-sctrdepthTo x r =
-    record { mode = r .mode; mctrctl = r .mctrctl; vsctrctl = r .vsctrctl; sctrdepth = x; wrptr = r .wrptr; frozen = r .frozen; siselect = r .siselect; vsiselect = r .vsiselect; mstateen0 = r .mstateen0; hstateen0 = r .hstateen0 }
+abbrev bufferTo : ℕ → ℕ → Bool → Registers → Registers
+bufferTo c w f r =
+    record { mode = r .mode; controls = r .controls; buffer = record { code = c; wrptr = w; frozen = f }; selects = r .selects; enables = r .enables }
+
+abbrev pub codeTo : ℕ → Registers → Registers
+codeTo x r = bufferTo x (r .buffer .wrptr) (r .buffer .frozen) r
 
 abbrev pub wrptrTo : ℕ → Registers → Registers
-wrptrTo x r =
-    record { mode = r .mode; mctrctl = r .mctrctl; vsctrctl = r .vsctrctl; sctrdepth = r .sctrdepth; wrptr = x; frozen = r .frozen; siselect = r .siselect; vsiselect = r .vsiselect; mstateen0 = r .mstateen0; hstateen0 = r .hstateen0 }
+wrptrTo x r = bufferTo (r .buffer .code) x (r .buffer .frozen) r
 
 abbrev pub frozenTo : Bool → Registers → Registers
-frozenTo b r =
-    record { mode = r .mode; mctrctl = r .mctrctl; vsctrctl = r .vsctrctl; sctrdepth = r .sctrdepth; wrptr = r .wrptr; frozen = b; siselect = r .siselect; vsiselect = r .vsiselect; mstateen0 = r .mstateen0; hstateen0 = r .hstateen0 }
+frozenTo b r = bufferTo (r .buffer .code) (r .buffer .wrptr) b r
+
+abbrev selectsTo : ℕ → ℕ → Registers → Registers
+selectsTo s v r =
+    record { mode = r .mode; controls = r .controls; buffer = r .buffer; selects = record { siselect = s; vsiselect = v }; enables = r .enables }
 
 abbrev pub siselectTo : ℕ → Registers → Registers
-siselectTo x r =
-    record { mode = r .mode; mctrctl = r .mctrctl; vsctrctl = r .vsctrctl; sctrdepth = r .sctrdepth; wrptr = r .wrptr; frozen = r .frozen; siselect = x; vsiselect = r .vsiselect; mstateen0 = r .mstateen0; hstateen0 = r .hstateen0 }
+siselectTo x r = selectsTo x (r .selects .vsiselect) r
 
 abbrev pub vsiselectTo : ℕ → Registers → Registers
-vsiselectTo x r =
-    record { mode = r .mode; mctrctl = r .mctrctl; vsctrctl = r .vsctrctl; sctrdepth = r .sctrdepth; wrptr = r .wrptr; frozen = r .frozen; siselect = r .siselect; vsiselect = x; mstateen0 = r .mstateen0; hstateen0 = r .hstateen0 }
+vsiselectTo x r = selectsTo (r .selects .siselect) x r
 
 -- the two state-enable bits, each as given
-abbrev pub stateenTo : Bool → Bool → Registers → Registers
-stateenTo m h r =
-    record { mode = r .mode; mctrctl = r .mctrctl; vsctrctl = r .vsctrctl; sctrdepth = r .sctrdepth; wrptr = r .wrptr; frozen = r .frozen; siselect = r .siselect; vsiselect = r .vsiselect; mstateen0 = m; hstateen0 = h }
+abbrev pub enablesTo : Enables → Registers → Registers
+enablesTo e r =
+    record {
+      mode = r .mode;
+      controls = r .controls;
+      buffer = r .buffer;
+      selects = r .selects;
+      enables = record { mstateen0 = e .mstateen0; hstateen0 = e .hstateen0 };
+    }

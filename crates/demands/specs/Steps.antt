@@ -5,10 +5,12 @@ use mathlib.Core.Bool.{false}
 use mathlib.Core.Logic.{_⊎_}
 use Rattle.machine.specs.declared.Mode.the-variants.{U, M, VU, VS}
 use Rattle.machine.specs.declared.Registers.{Registers}
-use Rattle.csr.specs.declared.Register.{Register}
-use Rattle.csr.specs.declared.Register.the-variants.{Mctrctl, Sctrctl, Vsctrctl, Sctrdepth, Sctrstatus, Vsiselect, Sireg, Vsireg}
-use Rattle.recorder.specs.declared.Event.{Event}
-use Rattle.recorder.specs.declared.Event.the-variants.{Retired, Trap, TrapReturn, Access, Sctrclr, Host}
+use Rattle.csr.specs.declared.Csr.{Csr}
+use Rattle.csr.specs.declared.Csr.the-variants.{Control, Select, Ireg, Depth, Status}
+use Rattle.csr.specs.declared.View.{View}
+use Rattle.csr.specs.declared.View.the-variants.{Machine, Supervisor, Guest}
+use Rattle.machine.specs.declared.Event.{Event}
+use Rattle.machine.specs.declared.Event.the-variants.{Retired, Trap, TrapReturn, Access, Sctrclr, Host}
 use Rattle.demands.specs.Registers.{Reaches, selected}
 
 -- what is asked of the steps: an access by its number, or SCTRCLR
@@ -22,43 +24,41 @@ pub record Window (i : ℕ) : Type 0 where
   pub to : i ≤ 0x2FF
 
 -- the registers of step 3's list: sctrctl, vsctrctl, sctrdepth, sctrstatus, or an ireg whose selection lies in the window
-pub data Gated (r : Registers) : Register → Type 0 where
-  sctrctl : Gated r Sctrctl
-  vsctrctl : Gated r Vsctrctl
-  sctrdepth : Gated r Sctrdepth
-  sctrstatus : Gated r Sctrstatus
-  sireg : {k : ℕ} → Window (selected r (r .mode)) → Gated r (Sireg k)
-  vsireg : {k : ℕ} → Window (r .vsiselect) → Gated r (Vsireg k)
+pub data Gated (r : Registers) : Csr → Type 0 where
+  sctrctl : Gated r (Control Supervisor)
+  vsctrctl : Gated r (Control Guest)
+  sctrdepth : Gated r Depth
+  sctrstatus : Gated r Status
+  ireg : {v : View} {k : ℕ} → Window (selected r v) → Gated r (Ireg v k)
 
 -- step 3's list: one of those registers, or SCTRCLR
 pub data Listed (r : Registers) : Asked → Type 0 where
-  register : {n : ℕ} {g : Register} → Reaches n g → Gated r g → Listed r (number n)
+  register : {n : ℕ} {g : Csr} → Reaches n g → Gated r g → Listed r (number n)
   clear : Listed r sctrclr
 
 -- the registers that VS may not reach, by the number itself
-pub data Barred : Register → Type 0 where
-  vsctrctl : Barred Vsctrctl
-  sctrdepth : Barred Sctrdepth
-  vsiselect : Barred Vsiselect
-  vsireg : {k : ℕ} → Barred (Vsireg k)
+pub data Barred : Csr → Type 0 where
+  vsctrctl : Barred (Control Guest)
+  sctrdepth : Barred Depth
+  vsiselect : Barred (Select Guest)
+  vsireg : {k : ℕ} → Barred (Ireg Guest k)
 
 -- an ireg whose selection is outside the window
-pub data Outside (r : Registers) : Register → Type 0 where
-  sireg : {k : ℕ} → (Window (selected r (r .mode)) → ⊥) → Outside r (Sireg k)
-  vsireg : {k : ℕ} → (Window (r .vsiselect) → ⊥) → Outside r (Vsireg k)
+pub data Outside (r : Registers) : Csr → Type 0 where
+  ireg : {v : View} {k : ℕ} → (Window (selected r v) → ⊥) → Outside r (Ireg v k)
 
 -- 1. unlisted number
 pub data Step1 (r : Registers) : Asked → Type 0 where
-  unlisted : {n : ℕ} → ((g : Register) → Reaches n g → ⊥) → Step1 r (number n)
+  unlisted : {n : ℕ} → ((g : Csr) → Reaches n g → ⊥) → Step1 r (number n)
 
 -- 2. mctrctl below M; any access or SCTRCLR from U
 pub data Step2 (r : Registers) : Asked → Type 0 where
-  mctrctl : {n : ℕ} → (r .mode ≡ M → ⊥) → Reaches n Mctrctl → Step2 r (number n)
+  mctrctl : {n : ℕ} → (r .mode ≡ M → ⊥) → Reaches n (Control Machine) → Step2 r (number n)
   from-U : {a : Asked} → r .mode ≡ U → Step2 r a
 
 -- 3. below M, mstateen0.CTR is 0, and the target is of the list
 pub data Step3 (r : Registers) : Asked → Type 0 where
-  gated : {a : Asked} → (r .mode ≡ M → ⊥) → r .mstateen0 ≡ false → Listed r a → Step3 r a
+  gated : {a : Asked} → (r .mode ≡ M → ⊥) → r .enables .mstateen0 ≡ false → Listed r a → Step3 r a
 
 -- 4. from VU
 pub data Step4 (r : Registers) : Asked → Type 0 where
@@ -66,12 +66,12 @@ pub data Step4 (r : Registers) : Asked → Type 0 where
 
 -- 5. from VS, a register that it may not reach; or hstateen0.CTR is 0, and the target is of the list
 pub data Step5 (r : Registers) : Asked → Type 0 where
-  by-number : {n : ℕ} {g : Register} → r .mode ≡ VS → Reaches n g → Barred g → Step5 r (number n)
-  gated : {a : Asked} → r .mode ≡ VS → r .hstateen0 ≡ false → Listed r a → Step5 r a
+  by-number : {n : ℕ} {g : Csr} → r .mode ≡ VS → Reaches n g → Barred g → Step5 r (number n)
+  gated : {a : Asked} → r .mode ≡ VS → r .enables .hstateen0 ≡ false → Listed r a → Step5 r a
 
 -- 6. an ireg whose selection is outside the window
 pub data Step6 (r : Registers) : Asked → Type 0 where
-  outside : {n : ℕ} {g : Register} → Reaches n g → Outside r g → Step6 r (number n)
+  outside : {n : ℕ} {g : Csr} → Reaches n g → Outside r g → Step6 r (number n)
 
 -- the first that applies is 2 or 3: number 1; 4 or 5: number 2; 1 or 6: number 3
 abbrev IllegalAt : Registers → Asked → Type 0
@@ -86,12 +86,12 @@ MissingAt r a =
 
 -- of an event: the steps are for accesses and SCTRCLR
 abbrev OfAsked : (Registers → Asked → Type 0) → Registers → Event → Type 0
-OfAsked p r (Access operation n operand) = p r (number n)
+OfAsked p r (Access a) = p r (number (a .number))
 OfAsked p r Sctrclr = p r sctrclr
-OfAsked p r (Retired word pc target taken) = ⊥
-OfAsked p r (Trap to interrupt cause epc handler) = ⊥
-OfAsked p r (TrapReturn to pc target) = ⊥
-OfAsked p r (Host mstateen0 hstateen0) = ⊥
+OfAsked p r (Retired w) = ⊥
+OfAsked p r (Trap t) = ⊥
+OfAsked p r (TrapReturn t) = ⊥
+OfAsked p r (Host h) = ⊥
 
 -- illegal instruction, virtual instruction, and not listed or outside 0x200..0x2FF, by the access steps
 abbrev pub Illegal : Registers → Event → Type 0

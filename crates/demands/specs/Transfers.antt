@@ -5,27 +5,40 @@ use mathlib.Core.Path.{_≡_}
 use mathlib.Core.Bool.{Bool, true, false}
 use mathlib.Core.Logic.{_⊎_}
 use Rattle.bits.specs.Choice.{if_then_else_}
-use Rattle.bits.specs.Words.{bitAt}
 use Rattle.classifier.specs.Promise.{wordType}
 use Rattle.machine.specs.declared.Entry.{Entry}
 use Rattle.machine.specs.declared.Mode.{Mode}
 use Rattle.machine.specs.declared.Mode.the-variants.{U, S, M, VU, VS}
 use Rattle.machine.specs.declared.Registers.{Registers}
+use Rattle.machine.specs.declared.ControlBit.the-variants as Bit
+use Rattle.machine.specs.declared.ControlRegister.{ControlRegister}
+use Rattle.machine.specs.declared.ControlRegister.the-variants.{Mctrctl, Vsctrctl}
+use Rattle.machine.specs.declared.RetiredWord.{RetiredWord}
+use Rattle.machine.specs.declared.TrapTo.{TrapTo}
+use Rattle.machine.specs.declared.ReturnTo.{ReturnTo}
 use Rattle.recorder.specs.Entries.{entryAt, withEntry}
 use Rattle.recorder.specs.Steps.{stateOf, entriesIn}
-use Rattle.recorder.specs.declared.Event.{Event}
-use Rattle.recorder.specs.declared.Event.the-variants.{Retired, Trap, TrapReturn, Access, Sctrclr, Host}
+use Rattle.machine.specs.declared.Event.{Event}
+use Rattle.machine.specs.declared.Event.the-variants.{Retired, Trap, TrapReturn, Access, Sctrclr, Host}
 use Rattle.recorder.specs.declared.State.{State}
-use Rattle.demands.specs.States.{Is1, Is0, depth, Traps, Returns, modeTo, wrptrTo, frozenTo}
+use Rattle.demands.specs.States.{depth, bit, IsSet, IsClear, Traps, Returns, modeTo, wrptrTo, frozenTo}
 use Rattle.demands.specs.Registers.{physical, registersTo}
 
--- the switch of a mode: U, S, M are bits 0, 1, 2 of mctrctl, VU and VS bits 0 and 1 of vsctrctl
+-- the control register of a mode: vsctrctl for VS and VU, else mctrctl
+abbrev pub control : Mode → ControlRegister
+control U = Mctrctl
+control S = Mctrctl
+control M = Mctrctl
+control VU = Vsctrctl
+control VS = Vsctrctl
+
+-- the switch of a mode: U, S, M are bits of mctrctl, VU and VS of vsctrctl, at the places of U and S
 abbrev pub switch : Registers → Mode → ℕ
-switch r U = bitAt (r .mctrctl) 0
-switch r S = bitAt (r .mctrctl) 1
-switch r M = bitAt (r .mctrctl) 2
-switch r VU = bitAt (r .vsctrctl) 0
-switch r VS = bitAt (r .vsctrctl) 1
+switch r U = bit r Mctrctl Bit.U
+switch r S = bit r Mctrctl Bit.S
+switch r M = bit r Mctrctl Bit.M
+switch r VU = bit r Vsctrctl Bit.U
+switch r VS = bit r Vsctrctl Bit.S
 
 -- a mode is on exactly when its switch is 1, and off when it is 0
 abbrev pub On : Registers → Mode → Type 0
@@ -34,106 +47,108 @@ On r m = switch r m ≡ 1
 abbrev pub Off : Registers → Mode → Type 0
 Off r m = switch r m ≡ 0
 
--- the control register of a mode: vsctrctl for VS and VU, else mctrctl
-abbrev pub control : Registers → Mode → ℕ
-control r U = r .mctrctl
-control r S = r .mctrctl
-control r M = r .mctrctl
-control r VU = r .vsctrctl
-control r VS = r .vsctrctl
-
 -- other fields come from the control register of the source mode
-abbrev pub ofSource : Registers → ℕ
-ofSource r = control r (r .mode)
+abbrev pub ofSource : Registers → ControlRegister
+ofSource r = control (r .mode)
 
--- RASEMU, bit 7 of it
+-- RASEMU of it
 abbrev pub RASEMU : Registers → ℕ
-RASEMU r = bitAt (ofSource r) 7
+RASEMU r = bit r (ofSource r) Bit.RASEMU
 
--- a trap that sets FROZEN: a breakpoint exception (cause 3) with BPFRZ, bit 11, or a counter overflow interrupt (cause 13) with
--- LCOFIFRZ, bit 12; read in mctrctl for traps to M or S, in vsctrctl for traps to VS. Nothing else is asked
+-- a trap that sets FROZEN: a breakpoint exception (cause 3) with BPFRZ, or a counter overflow interrupt (cause 13) with LCOFIFRZ;
+-- read in mctrctl for traps to M or S, in vsctrctl for traps to VS. Nothing else is asked
 pub data Freezes (r : Registers) : Event → Type 0 where
-  BPFRZ : {to : Mode} {epc handler : ℕ}
-      → Traps (r .mode) to → Is1 (control r to) 11 → Freezes r (Trap to false 3 epc handler)
-  LCOFIFRZ : {to : Mode} {epc handler : ℕ}
-      → Traps (r .mode) to → Is1 (control r to) 12 → Freezes r (Trap to true 13 epc handler)
+  BPFRZ : {t : TrapTo}
+      → Traps (r .mode) (t .mode) → t .interrupt ≡ false → t .cause ≡ 3 → IsSet r (control (t .mode)) Bit.BPFRZ → Freezes r (Trap t)
+  LCOFIFRZ : {t : TrapTo}
+      → Traps (r .mode) (t .mode) → t .interrupt ≡ true → t .cause ≡ 13 → IsSet r (control (t .mode)) Bit.LCOFIFRZ → Freezes r (Trap t)
 
 -- a trap's type, by its kind
 abbrev pub trapType : Bool → ℕ
 trapType interrupt = if interrupt then 2 else 1
 
--- a control word does not inhibit a type; type 4 needs NTBREN. There are no other types
-pub data Allows (c : ℕ) : ℕ → Type 0 where
-  EXCINH : Is0 c 33 → Allows c 1
-  INTRINH : Is0 c 34 → Allows c 2
-  TRETINH : Is0 c 35 → Allows c 3
-  NTBREN : Is1 c 36 → Allows c 4
-  TKBRINH : Is0 c 37 → Allows c 5
-  INDCALLINH : Is0 c 40 → Allows c 8
-  DIRCALLINH : Is0 c 41 → Allows c 9
-  INDJMPINH : Is0 c 42 → Allows c 10
-  DIRJMPINH : Is0 c 43 → Allows c 11
-  CORSWAPINH : Is0 c 44 → Allows c 12
-  RETINH : Is0 c 45 → Allows c 13
-  INDLJMPINH : Is0 c 46 → Allows c 14
-  DIRLJMPINH : Is0 c 47 → Allows c 15
+-- a control register does not inhibit a type; type 4 needs NTBREN. There are no other types
+pub data Allows (r : Registers) (c : ControlRegister) : ℕ → Type 0 where
+  EXCINH : IsClear r c Bit.EXCINH → Allows r c 1
+  INTRINH : IsClear r c Bit.INTRINH → Allows r c 2
+  TRETINH : IsClear r c Bit.TRETINH → Allows r c 3
+  NTBREN : IsSet r c Bit.NTBREN → Allows r c 4
+  TKBRINH : IsClear r c Bit.TKBRINH → Allows r c 5
+  INDCALLINH : IsClear r c Bit.INDCALLINH → Allows r c 8
+  DIRCALLINH : IsClear r c Bit.DIRCALLINH → Allows r c 9
+  INDJMPINH : IsClear r c Bit.INDJMPINH → Allows r c 10
+  DIRJMPINH : IsClear r c Bit.DIRJMPINH → Allows r c 11
+  CORSWAPINH : IsClear r c Bit.CORSWAPINH → Allows r c 12
+  RETINH : IsClear r c Bit.RETINH → Allows r c 13
+  INDLJMPINH : IsClear r c Bit.INDLJMPINH → Allows r c 14
+  DIRLJMPINH : IsClear r c Bit.DIRLJMPINH → Allows r c 15
 
--- the external bits of the target and of every mode between are set: VSTE is bit 8 of vsctrctl, STE and MTE are bits 8 and 9 of
--- mctrctl
+-- the external bits, VSTE of vsctrctl and STE and MTE of mctrctl
+abbrev pub VSTE : Registers → Type 0
+VSTE r = IsSet r Vsctrctl Bit.STE
+
+abbrev pub STE : Registers → Type 0
+STE r = IsSet r Mctrctl Bit.STE
+
+abbrev pub MTE : Registers → Type 0
+MTE r = IsSet r Mctrctl Bit.MTE
+
+-- those of the target and of every mode between are set
 pub data External (r : Registers) : Mode → Mode → Type 0 where
-  VU-VS : Is1 (r .vsctrctl) 8 → External r VU VS
-  VS-VS : Is1 (r .vsctrctl) 8 → External r VS VS
-  U-S : Is1 (r .mctrctl) 8 → External r U S
-  S-S : Is1 (r .mctrctl) 8 → External r S S
-  VS-S : Is1 (r .mctrctl) 8 → External r VS S
-  VU-S : Is1 (r .vsctrctl) 8 → Is1 (r .mctrctl) 8 → External r VU S
-  S-M : Is1 (r .mctrctl) 9 → External r S M
-  M-M : Is1 (r .mctrctl) 9 → External r M M
-  U-M : Is1 (r .mctrctl) 8 → Is1 (r .mctrctl) 9 → External r U M
-  VS-M : Is1 (r .mctrctl) 8 → Is1 (r .mctrctl) 9 → External r VS M
-  VU-M : Is1 (r .vsctrctl) 8 → Is1 (r .mctrctl) 8 → Is1 (r .mctrctl) 9 → External r VU M
+  VU-VS : VSTE r → External r VU VS
+  VS-VS : VSTE r → External r VS VS
+  U-S : STE r → External r U S
+  S-S : STE r → External r S S
+  VS-S : STE r → External r VS S
+  VU-S : VSTE r → STE r → External r VU S
+  S-M : MTE r → External r S M
+  M-M : MTE r → External r M M
+  U-M : STE r → MTE r → External r U M
+  VS-M : STE r → MTE r → External r VS M
+  VU-M : VSTE r → STE r → MTE r → External r VU M
 
 -- a possible trap that is recorded or not by the rules below: it does not freeze, and nothing is frozen
-pub record Passes (r : Registers) (to : Mode) (interrupt : Bool) (cause epc handler : ℕ) : Type 0 where
-  pub possible : Traps (r .mode) to
-  pub freezes-not : Freezes r (Trap to interrupt cause epc handler) → ⊥
-  pub frozen-not : r .frozen ≡ false
+pub record Passes (r : Registers) (t : TrapTo) : Type 0 where
+  pub possible : Traps (r .mode) (t .mode)
+  pub freezes-not : Freezes r (Trap t) → ⊥
+  pub frozen-not : r .buffer .frozen ≡ false
+
+-- the type of a retired word, by its row in the table of words
+abbrev typeOf : RetiredWord → ℕ
+typeOf w = wordType (w .word) (w .taken)
 
 -- when a transfer is recorded
 pub data Qualifies (r : Registers) : Event → Type 0 where
   -- RASEMU 0: a retired transfer if its mode is on and its type isn't inhibited
-  retired : {word pc target : ℕ} {taken : Bool}
-      → r .frozen ≡ false → RASEMU r ≡ 0 → On r (r .mode) → Allows (ofSource r) (wordType word taken)
-      → Qualifies r (Retired word pc target taken)
+  retired : {w : RetiredWord}
+      → r .buffer .frozen ≡ false → RASEMU r ≡ 0 → On r (r .mode) → Allows r (ofSource r) (typeOf w) → Qualifies r (Retired w)
   -- RASEMU 0: a trap from a mode that is on into one that is on, unless EXCINH or INTRINH inhibits it
-  on-to-on : {to : Mode} {interrupt : Bool} {cause epc handler : ℕ}
-      → Passes r to interrupt cause epc handler → RASEMU r ≡ 0 → On r (r .mode) → On r to
-      → Allows (ofSource r) (trapType interrupt) → Qualifies r (Trap to interrupt cause epc handler)
+  on-to-on : {t : TrapTo}
+      → Passes r t → RASEMU r ≡ 0 → On r (r .mode) → On r (t .mode)
+      → Allows r (ofSource r) (trapType (t .interrupt)) → Qualifies r (Trap t)
   -- from off to on the same
-  off-to-on : {to : Mode} {interrupt : Bool} {cause epc handler : ℕ}
-      → Passes r to interrupt cause epc handler → RASEMU r ≡ 0 → Off r (r .mode) → On r to
-      → Allows (ofSource r) (trapType interrupt) → Qualifies r (Trap to interrupt cause epc handler)
+  off-to-on : {t : TrapTo}
+      → Passes r t → RASEMU r ≡ 0 → Off r (r .mode) → On r (t .mode)
+      → Allows r (ofSource r) (trapType (t .interrupt)) → Qualifies r (Trap t)
   -- from on to off it is external: recorded if the external bits are set, inhibits not asked
-  on-to-off : {to : Mode} {interrupt : Bool} {cause epc handler : ℕ}
-      → Passes r to interrupt cause epc handler → RASEMU r ≡ 0 → On r (r .mode) → Off r to
-      → External r (r .mode) to → Qualifies r (Trap to interrupt cause epc handler)
+  on-to-off : {t : TrapTo}
+      → Passes r t → RASEMU r ≡ 0 → On r (r .mode) → Off r (t .mode) → External r (r .mode) (t .mode) → Qualifies r (Trap t)
   -- RASEMU 0: a return if its source is on and TRETINH is 0
-  return : {to : Mode} {pc target : ℕ}
-      → Returns (r .mode) to → r .frozen ≡ false → RASEMU r ≡ 0 → On r (r .mode) → Allows (ofSource r) 3
-      → Qualifies r (TrapReturn to pc target)
+  return : {t : ReturnTo}
+      → Returns (r .mode) (t .mode) → r .buffer .frozen ≡ false → RASEMU r ≡ 0 → On r (r .mode) → Allows r (ofSource r) 3
+      → Qualifies r (TrapReturn t)
   -- RASEMU 1, in a mode that is on, inhibits not asked: types 8 and 9
-  call : {word pc target : ℕ} {taken : Bool}
-      → r .frozen ≡ false → RASEMU r ≡ 1 → On r (r .mode) → (wordType word taken ≡ 8) ⊎ (wordType word taken ≡ 9)
-      → Qualifies r (Retired word pc target taken)
+  call : {w : RetiredWord}
+      → r .buffer .frozen ≡ false → RASEMU r ≡ 1 → On r (r .mode) → (typeOf w ≡ 8) ⊎ (typeOf w ≡ 9) → Qualifies r (Retired w)
 
 -- RASEMU 1, in a mode that is on: type 13 pops, and type 12 swaps in place
 pub data Pops (r : Registers) : Event → Type 0 where
-  type-13 : {word pc target : ℕ} {taken : Bool}
-      → r .frozen ≡ false → RASEMU r ≡ 1 → On r (r .mode) → wordType word taken ≡ 13 → Pops r (Retired word pc target taken)
+  type-13 : {w : RetiredWord}
+      → r .buffer .frozen ≡ false → RASEMU r ≡ 1 → On r (r .mode) → typeOf w ≡ 13 → Pops r (Retired w)
 
 pub data Swaps (r : Registers) : Event → Type 0 where
-  type-12 : {word pc target : ℕ} {taken : Bool}
-      → r .frozen ≡ false → RASEMU r ≡ 1 → On r (r .mode) → wordType word taken ≡ 12 → Swaps r (Retired word pc target taken)
+  type-12 : {w : RetiredWord}
+      → r .buffer .frozen ≡ false → RASEMU r ≡ 1 → On r (r .mode) → typeOf w ≡ 12 → Swaps r (Retired w)
 
 -- the address of a side: PC 0 where the switch of its mode is 0
 abbrev pub sideOf : ℕ → ℕ → ℕ
@@ -146,22 +161,22 @@ entryOf pc target type = record { ctrsource = pc / 2 * 2 + 1; ctrtarget = target
 
 -- what an event records, if it does; other events never do
 abbrev pub recordOf : Registers → Event → Entry
-recordOf r (Retired word pc target taken) = entryOf pc target (wordType word taken)
-recordOf r (Trap to interrupt cause epc handler) =
-    entryOf (sideOf (switch r (r .mode)) epc) (sideOf (switch r to) handler) (trapType interrupt)
-recordOf r (TrapReturn to pc target) = entryOf (sideOf (switch r (r .mode)) pc) (sideOf (switch r to) target) 3
-recordOf r (Access operation number operand) = entryOf 0 0 0
+recordOf r (Retired w) = entryOf (w .pc) (w .target) (typeOf w)
+recordOf r (Trap t) =
+    entryOf (sideOf (switch r (r .mode)) (t .epc)) (sideOf (switch r (t .mode)) (t .handler)) (trapType (t .interrupt))
+recordOf r (TrapReturn t) = entryOf (sideOf (switch r (r .mode)) (t .pc)) (sideOf (switch r (t .mode)) (t .target)) 3
+recordOf r (Access a) = entryOf 0 0 0
 recordOf r Sctrclr = entryOf 0 0 0
-recordOf r (Host mstateen0 hstateen0) = entryOf 0 0 0
+recordOf r (Host h) = entryOf 0 0 0
 
 -- every possible trap or return changes the mode, recorded or not
 abbrev pub modeAfter : Registers → Event → Mode
-modeAfter r (Trap to interrupt cause epc handler) = to
-modeAfter r (TrapReturn to pc target) = to
-modeAfter r (Retired word pc target taken) = r .mode
-modeAfter r (Access operation number operand) = r .mode
+modeAfter r (Trap t) = t .mode
+modeAfter r (TrapReturn t) = t .mode
+modeAfter r (Retired w) = r .mode
+modeAfter r (Access a) = r .mode
 modeAfter r Sctrclr = r .mode
-modeAfter r (Host mstateen0 hstateen0) = r .mode
+modeAfter r (Host h) = r .mode
 
 abbrev pub withMove : State → Event → State
 withMove s e = let r = s .registers in registersTo (modeTo (modeAfter r e) r) s
@@ -172,16 +187,16 @@ withFreeze s e = let r = s .registers in registersTo (modeTo (modeAfter r e) (fr
 
 -- WRPTR one up and one down, modulo depth
 abbrev pub oneUp : Registers → ℕ
-oneUp r = (r .wrptr + 1) % depth (r .sctrdepth)
+oneUp r = (r .buffer .wrptr + 1) % depth (r .buffer .code)
 
 abbrev pub oneDown : Registers → ℕ
-oneDown r = (r .wrptr + depth (r .sctrdepth) - 1) % depth (r .sctrdepth)
+oneDown r = (r .buffer .wrptr + depth (r .buffer .code) - 1) % depth (r .buffer .code)
 
 -- a record goes to physical entry WRPTR, and WRPTR goes up by one
 abbrev pub withRecord : State → Event → State
 withRecord s e =
     let r = s .registers in
-    stateOf (modeTo (modeAfter r e) (wrptrTo (oneUp r) r)) (withEntry (entriesIn s) (r .wrptr) (recordOf r e))
+    stateOf (modeTo (modeAfter r e) (wrptrTo (oneUp r) r)) (withEntry (entriesIn s) (r .buffer .wrptr) (recordOf r e))
 
 -- a pop clears V of logical entry 0, and WRPTR goes down by one
 abbrev pub withoutV : Entry → Entry

@@ -5,10 +5,10 @@ use mathlib.Core.List.{List, [], _∷_}
 use lib.Dec.{eqb}
 use Rattle.bits.specs.Choice.{if_then_else_}
 use Rattle.recorder.specs.Steps.{stepOf}
-use Rattle.recorder.specs.declared.Event.{Event}
+use Rattle.machine.specs.declared.Event.{Event}
 use Rattle.recorder.specs.declared.State.{State}
 use Rattle.recorder.specs.declared.Stepped.{Stepped}
-use Rattle.demands.specs.Runs.{Recorder}
+use Rattle.recorder.specs.Runs.{Recorder}
 use Rattle.demands.specs.Demands.{Demand1, Demand2}
 
 abbrev answer : ℕ → ℕ → State → Stepped

@@ -6,19 +6,19 @@ use lib.Dec.{eqb, leb, ltb}
 use Prim.Native.Nat.{ℕ}
 use Rattle.bits.specs.Words.{keep}
 use Rattle.machine.specs.Controls.{mctrctlMask, sctrctlMask}
-use Rattle.machine.specs.Regs.{topCode, depthOf, goodOf}
+use Rattle.machine.specs.Regs.{topCode, depthOf, goodBuffer, goodControls, goodOf}
 use Rattle.machine.specs.declared.Registers.{Registers}
 
 pub record Good (r : Registers) : Type 0 where
-  pub code : leb (r .sctrdepth) topCode ≡ true
-  pub pointer : ltb (r .wrptr) (depthOf (r .sctrdepth)) ≡ true
-  pub control : eqb (keep mctrctlMask (r .mctrctl)) (r .mctrctl) ≡ true
-  pub guest : eqb (keep sctrctlMask (r .vsctrctl)) (r .vsctrctl) ≡ true
+  pub code : leb (r .buffer .code) topCode ≡ true
+  pub pointer : ltb (r .buffer .wrptr) (depthOf (r .buffer .code)) ≡ true
+  pub control : eqb (keep mctrctlMask (r .controls .mctrctl)) (r .controls .mctrctl) ≡ true
+  pub guest : eqb (keep sctrctlMask (r .controls .vsctrctl)) (r .controls .vsctrctl) ≡ true
 
 never : _≡_ {A = Bool} false true → ⊥
 never h = let z : _≡_ {A = ℕ} 0 1 = cc in omega arith
 
-four : (a b c d : Bool) → (a && (b && (c && d))) ≡ true → (a ≡ true) × (b ≡ true) × (c ≡ true) × (d ≡ true)
+four : (a b c d : Bool) → ((a && b) && (c && d)) ≡ true → (a ≡ true) × (b ≡ true) × (c ≡ true) × (d ≡ true)
 four true true true true h = (refl, refl, refl, refl)
 four true true true false h = absurd (never h)
 four true true false d h = absurd (never h)
@@ -26,16 +26,16 @@ four true false c d h = absurd (never h)
 four false b c d h = absurd (never h)
 
 pub parts : (r : Registers) → goodOf r ≡ true → Good r
-unfolding goodOf
+unfolding goodOf goodBuffer goodControls
 parts r h =
     let p =
-    four (leb (r .sctrdepth) topCode)
-    (ltb (r .wrptr) (depthOf (r .sctrdepth)))
-    (eqb (keep mctrctlMask (r .mctrctl)) (r .mctrctl))
-    (eqb (keep sctrctlMask (r .vsctrctl)) (r .vsctrctl))
+    four (leb (r .buffer .code) topCode)
+    (ltb (r .buffer .wrptr) (depthOf (r .buffer .code)))
+    (eqb (keep mctrctlMask (r .controls .mctrctl)) (r .controls .mctrctl))
+    (eqb (keep sctrctlMask (r .controls .vsctrctl)) (r .controls .vsctrctl))
     h in
     record { code = p .0; pointer = p .1; control = p .2; guest = p .3 }
 
 pub whole : (r : Registers) → Good r → goodOf r ≡ true
-unfolding goodOf
+unfolding goodOf goodBuffer goodControls
 whole r g = rw (g .code, g .pointer, g .control, g .guest)

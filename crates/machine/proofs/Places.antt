@@ -4,7 +4,7 @@ use Prim.Native.Nat.{ℕ, suc, _+_, _-_, _*_, _/_, _%_, _<_}
 use native.Mathlib.Nat.{mod-lt, mod-mod, mod-add-mod, mod-add-div', add-mul-mod-self-right, suc-mul}
 use native.Mathlib.Omega.{arith}
 use Rattle.bits.specs.Words.{keep}
-use Rattle.machine.specs.Regs.{depthOf, physicalOf, goodOf}
+use Rattle.machine.specs.Regs.{depthOf, physicalOf, goodBuffer, goodControls, goodOf}
 use Rattle.machine.specs.Places.{Places}
 use Rattle.machine.proofs.Depths.{depth-pos}
 
@@ -28,5 +28,5 @@ unfolding physicalOf
 in-use code w i = mod-lt _ (depth-pos code)
 
 pub places : Places
-unfolding goodOf depthOf keep
+unfolding goodOf goodBuffer goodControls depthOf keep
 places = record { all = refl; window = refl; kept = refl; logical = logical; in-use = in-use; reset = refl }

@@ -3,6 +3,9 @@ use Prim.Native.Nat.{ℕ}
 use mathlib.Core.Bool.{Bool}
 use lib.Dec.{eqb}
 use Rattle.bits.specs.Words.{bitAt}
+use Rattle.machine.specs.declared.Registers.{Registers}
+use Rattle.machine.specs.declared.ControlRegister.{ControlRegister}
+use Rattle.machine.specs.declared.ControlRegister.the-variants.{Mctrctl, Vsctrctl}
 use Rattle.machine.specs.declared.ControlBit.{ControlBit}
 use Rattle.machine.specs.declared.ControlBit.the-variants.{U, S, M, RASEMU, STE, MTE, BPFRZ, LCOFIFRZ, EXCINH, INTRINH, TRETINH, NTBREN, TKBRINH, INDCALLINH, DIRCALLINH, INDJMPINH, DIRJMPINH, CORSWAPINH, RETINH, INDLJMPINH, DIRLJMPINH}
 
@@ -30,9 +33,14 @@ placeOf RETINH = 45
 placeOf INDLJMPINH = 46
 placeOf DIRLJMPINH = 47
 
--- whether a control word has a bit set
-unfoldable pub isSet : ℕ → ControlBit → Bool
-isSet x b = eqb (bitAt x (placeOf b)) 1
+-- the word that a control register holds
+abbrev pub controlWord : Registers → ControlRegister → ℕ
+controlWord r Mctrctl = r .controls .mctrctl
+controlWord r Vsctrctl = r .controls .vsctrctl
+
+-- whether a control register has a bit set
+unfoldable pub isSet : Registers → ControlRegister → ControlBit → Bool
+isSet r c b = eqb (bitAt (controlWord r c) (placeOf b)) 1
 
 -- the bits that mctrctl has: all of them
 abbrev pub mctrctlMask : ℕ

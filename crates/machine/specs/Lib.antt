@@ -1,6 +1,6 @@
 pub mod Controls
 pub mod Modes
-pub mod Filters
 pub mod Regs
+pub mod Entries
 pub mod Answers
 pub mod Places

@@ -1,10 +1,11 @@
 -- The privilege modes: which are on for recording, and which control register speaks for a mode or a transition.
-use Prim.Native.Nat.{ℕ}
 use mathlib.Core.Bool.{Bool, true, false}
 use Rattle.bits.specs.Choice.{if_then_else_}
 use Rattle.machine.specs.Controls.{isSet}
 use Rattle.machine.specs.declared.Mode.{Mode}
 use Rattle.machine.specs.declared.Mode.the-variants.{U, S, M, VU, VS}
+use Rattle.machine.specs.declared.ControlRegister.{ControlRegister}
+use Rattle.machine.specs.declared.ControlRegister.the-variants.{Mctrctl, Vsctrctl}
 use Rattle.machine.specs.declared.ControlBit.{ControlBit}
 use Rattle.machine.specs.declared.ControlBit.the-variants as Bit
 use Rattle.machine.specs.declared.Registers.{Registers}
@@ -47,8 +48,8 @@ isVS VU = false
 isVS VS = true
 
 -- the control register of a mode: vsctrctl for VS and VU, else mctrctl
-unfoldable pub controlOf : Registers → Mode → ℕ
-controlOf r m = if isVirtual m then r .vsctrctl else r .mctrctl
+unfoldable pub controlOf : Mode → ControlRegister
+controlOf m = if isVirtual m then Vsctrctl else Mctrctl
 
 -- the bit that switches a mode on, in the control register of that mode
 abbrev pub switchOf : Mode → ControlBit
@@ -60,8 +61,8 @@ switchOf VS = Bit.S
 
 -- whether a mode is switched on
 unfoldable pub onOf : Registers → Mode → Bool
-onOf r m = isSet (controlOf r m) (switchOf m)
+onOf r m = isSet r (controlOf m) (switchOf m)
 
 -- the control register whose other fields govern a transition from the first mode to the second: that of the first
-unfoldable pub governingOf : Registers → Mode → Mode → ℕ
-governingOf r source target = controlOf r source
+unfoldable pub governingOf : Mode → Mode → ControlRegister
+governingOf source target = controlOf source

@@ -1,17 +1,79 @@
-// What an event decides.
+// The numbers and values of answers, and what an event decides.
 ghost use mathlib.Core.Path.{_≡_};
-ghost use Rattle.machine.specs.Answers.{refused, answered, answeredPut, answeredClear};
+ghost use Prim.Native.Nat.{min};
+ghost use Rattle.machine.specs.Answers.{numberOf, isAccepted, valueOf, numbers, values, refused, answered, answeredPut, answeredClear};
 use crate::Decision;
 use crate::Effect;
 use crate::Entry;
+use crate::Outcome;
 use crate::Registers;
+use crate::Verdict;
+
+// The number of a verdict.
+pub fn number(v: Verdict) -> u64
+    ensures { λ n. ⌜ n ≡ numberOf v ⌝ }
+{
+    match v {
+        Verdict::Accepted => 0,
+        Verdict::IllegalInstruction => 1,
+        Verdict::VirtualInstruction => 2,
+        Verdict::NoSuchRegister => 3,
+        Verdict::ChangeNotPossible => 4,
+        Verdict::BadState => 5,
+    }
+}
+
+pub fn is_accepted(v: Verdict) -> bool
+    ensures { λ b. ⌜ b ≡ isAccepted v ⌝ }
+{
+    match v {
+        Verdict::Accepted => true,
+        Verdict::IllegalInstruction => false,
+        Verdict::VirtualInstruction => false,
+        Verdict::NoSuchRegister => false,
+        Verdict::ChangeNotPossible => false,
+        Verdict::BadState => false,
+    }
+}
+
+// The value of an outcome.
+pub fn value(o: Outcome) -> u64
+    ensures { λ n. ⌜ n ≡ valueOf o ⌝ }
+{
+    match o {
+        Outcome::Nothing => 0,
+        Outcome::Record => 1,
+        Outcome::Pop => 2,
+        Outcome::Swap => 3,
+        Outcome::Freeze => 4,
+    }
+}
+
+// How many numbers there are, and how many values of outcomes.
+pub const NUMBERS: u64 = 6;
+
+pub const VALUES: u64 = 5;
+
+// The place of a number among the numbers; what is none of them comes after the last.
+pub fn number_place(number: u64) -> u64
+    ensures { λ p. ⌜ p ≡ min number numbers ⌝ }
+{
+    if number < NUMBERS { number } else { NUMBERS }
+}
+
+// The place of a value among the values of outcomes.
+pub fn value_place(value: u64) -> u64
+    ensures { λ p. ⌜ p ≡ min value values ⌝ }
+{
+    if value < VALUES { value } else { VALUES }
+}
 
 // Refused: nothing changes.
-pub fn refuse(r: Registers, number: u64) -> Decision
-    ensures { λ d. ⌜ d ≡ refused r number ⌝ }
+pub fn refuse(r: Registers, v: Verdict) -> Decision
+    ensures { λ d. ⌜ d ≡ refused r v ⌝ }
 {
     Decision {
-        number,
+        number: number(v),
         value: 0,
         registers: r,
         effect: Effect::Keep,
@@ -23,7 +85,7 @@ pub fn answer(r: Registers, value: u64) -> Decision
     ensures { λ d. ⌜ d ≡ answered r value ⌝ }
 {
     Decision {
-        number: 0,
+        number: number(Verdict::Accepted),
         value,
         registers: r,
         effect: Effect::Keep,
@@ -35,7 +97,7 @@ pub fn answer_put(r: Registers, value: u64, e: Entry) -> Decision
     ensures { λ d. ⌜ d ≡ answeredPut r value e ⌝ }
 {
     Decision {
-        number: 0,
+        number: number(Verdict::Accepted),
         value,
         registers: r,
         effect: Effect::Put(e),
@@ -47,7 +109,7 @@ pub fn answer_clear(r: Registers) -> Decision
     ensures { λ d. ⌜ d ≡ answeredClear r ⌝ }
 {
     Decision {
-        number: 0,
+        number: number(Verdict::Accepted),
         value: 0,
         registers: r,
         effect: Effect::ClearAll,

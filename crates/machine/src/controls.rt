@@ -2,8 +2,10 @@
 ghost use mathlib.Core.Path.{_≡_};
 ghost use lib.Dec.{eqb};
 ghost use Rattle.bits.specs.Words.{keep};
-ghost use Rattle.machine.specs.Controls.{placeOf, isSet};
+ghost use Rattle.machine.specs.Controls.{placeOf, controlWord, isSet};
 use crate::ControlBit;
+use crate::ControlRegister;
+use crate::Registers;
 
 pub const MCTRCTL_MASK: u64 = 0x0000_FF3E_0000_1B87;
 
@@ -40,11 +42,21 @@ fn place(b: ControlBit) -> u32
     }
 }
 
-// Whether a control word has a bit set.
-pub fn is_set(x: u64, b: ControlBit) -> bool
-    ensures { λ r. ⌜ r ≡ isSet x b ⌝ }
+// The word that a control register holds.
+fn control_word(r: Registers, c: ControlRegister) -> u64
+    ensures { λ x. ⌜ x ≡ controlWord r c ⌝ }
 {
-    bits::bit(x, place(b))
+    match c {
+        ControlRegister::Mctrctl => r.controls.mctrctl,
+        ControlRegister::Vsctrctl => r.controls.vsctrctl,
+    }
+}
+
+// Whether a control register has a bit set.
+pub fn is_set(r: Registers, c: ControlRegister, b: ControlBit) -> bool
+    ensures { λ x. ⌜ x ≡ isSet r c b ⌝ }
+{
+    bits::bit(control_word(r, c), place(b))
 }
 
 // Whether a control word has no bit outside a mask.

@@ -1,7 +1,7 @@
-// The machine that the recorder watches: modes, control bits and registers, all state but the entries (docs/RULES.md, S and R).
+// The machine that the recorder watches: modes, registers and events (docs/RULES.md, S and R).
 pub mod answers;
 pub mod controls;
-pub mod filters;
+pub mod entries;
 pub mod modes;
 pub mod regs;
 
@@ -11,6 +11,12 @@ pub enum Mode {
     M,
     VU,
     VS,
+}
+
+// A control register; sctrctl is a window on mctrctl.
+pub enum ControlRegister {
+    Mctrctl,
+    Vsctrctl,
 }
 
 // A bit of a control register.
@@ -38,20 +44,36 @@ pub enum ControlBit {
     DIRLJMPINH,
 }
 
-// All small state. Any value of the fields is possible.
-pub struct Registers {
-    pub mode: Mode,
+pub struct ControlWords {
     pub mctrctl: u64,
     pub vsctrctl: u64,
-    // the depth code
-    pub sctrdepth: u64,
+}
+
+// The buffer but for its entries: the depth code, WRPTR and FROZEN.
+pub struct Buffer {
+    pub code: u64,
     pub wrptr: u64,
     pub frozen: bool,
+}
+
+pub struct Selects {
     pub siselect: u64,
     pub vsiselect: u64,
-    // the CTR bits of the state-enable registers
+}
+
+// The CTR bits of the state-enable registers.
+pub struct Enables {
     pub mstateen0: bool,
     pub hstateen0: bool,
+}
+
+// All small state, in groups. Any value of the fields is possible.
+pub struct Registers {
+    pub mode: Mode,
+    pub controls: ControlWords,
+    pub buffer: Buffer,
+    pub selects: Selects,
+    pub enables: Enables,
 }
 
 // The three words of an entry.
@@ -59,6 +81,74 @@ pub struct Entry {
     pub ctrsource: u64,
     pub ctrtarget: u64,
     pub ctrdata: u64,
+}
+
+// A retired word; a 16-bit one in the low half.
+pub struct RetiredWord {
+    pub word: u32,
+    pub pc: u64,
+    pub target: u64,
+    pub taken: bool,
+}
+
+// A trap to a mode.
+pub struct TrapTo {
+    pub mode: Mode,
+    pub interrupt: bool,
+    pub cause: u64,
+    pub epc: u64,
+    pub handler: u64,
+}
+
+// A trap return to a mode.
+pub struct ReturnTo {
+    pub mode: Mode,
+    pub pc: u64,
+    pub target: u64,
+}
+
+pub enum Operation {
+    Read,
+    Write,
+    Set,
+    Clear,
+}
+
+// A register access by CSR number.
+pub struct CsrAccess {
+    pub operation: Operation,
+    pub number: u64,
+    pub operand: u64,
+}
+
+// What happens to the machine. Sctrclr is the instruction that clears all entries; the host sets
+// the CTR bits of mstateen0 and hstateen0.
+pub enum Event {
+    Retired(RetiredWord),
+    Trap(TrapTo),
+    TrapReturn(ReturnTo),
+    Access(CsrAccess),
+    Sctrclr,
+    Host(Enables),
+}
+
+// Whether an event is accepted, and why not.
+pub enum Verdict {
+    Accepted,
+    IllegalInstruction,
+    VirtualInstruction,
+    NoSuchRegister,
+    ChangeNotPossible,
+    BadState,
+}
+
+// What comes of a retired word, a trap or a trap return.
+pub enum Outcome {
+    Nothing,
+    Record,
+    Pop,
+    Swap,
+    Freeze,
 }
 
 // What becomes of the entries: nothing, the entry in focus is put, or all words are zeroed.

@@ -1,8 +1,8 @@
 // Which modes are on, and which control register speaks for a mode or a transition.
 ghost use mathlib.Core.Path.{_≡_};
-ghost use Rattle.machine.specs.Controls.{isSet};
 ghost use Rattle.machine.specs.Modes.{isVirtual, isU, isM, isVU, isVS, controlOf, switchOf, onOf, governingOf};
 use crate::ControlBit;
+use crate::ControlRegister;
 use crate::Mode;
 use crate::Registers;
 use crate::controls::is_set;
@@ -69,17 +69,14 @@ pub fn is_vs(m: Mode) -> bool
 }
 
 // The control register of a mode.
-pub fn control(r: Registers, m: Mode) -> u64
-    ensures { λ x. ⌜ x ≡ controlOf r m ⌝ }
+pub fn control(m: Mode) -> ControlRegister
+    ensures { λ c. ⌜ c ≡ controlOf m ⌝ }
 {
-    if is_virtual(m) { r.vsctrctl } else { r.mctrctl }
-}
-
-// Whether the control register of a mode has a bit set.
-pub fn has(r: Registers, m: Mode, b: ControlBit) -> bool
-    ensures { λ x. ⌜ x ≡ isSet (controlOf r m) b ⌝ }
-{
-    is_set(control(r, m), b)
+    if is_virtual(m) {
+        ControlRegister::Vsctrctl
+    } else {
+        ControlRegister::Mctrctl
+    }
 }
 
 fn switch_bit(m: Mode) -> ControlBit
@@ -98,12 +95,12 @@ fn switch_bit(m: Mode) -> ControlBit
 pub fn is_on(r: Registers, m: Mode) -> bool
     ensures { λ b. ⌜ b ≡ onOf r m ⌝ }
 {
-    has(r, m, switch_bit(m))
+    is_set(r, control(m), switch_bit(m))
 }
 
 // The control register that governs a transition.
-pub fn governing(r: Registers, source: Mode, target: Mode) -> u64
-    ensures { λ x. ⌜ x ≡ governingOf r source target ⌝ }
+pub fn governing(source: Mode, target: Mode) -> ControlRegister
+    ensures { λ c. ⌜ c ≡ governingOf source target ⌝ }
 {
-    control(r, source)
+    control(source)
 }

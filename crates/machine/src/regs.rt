@@ -1,10 +1,14 @@
-// The registers at reset, one field changed, the depth and number 5.
+// The registers at reset, one group or field changed, the depth and number 5.
 ghost use mathlib.Core.Path.{_≡_};
 ghost use Prim.Native.Nat.{_%_, min};
 ghost use lib.Dec.{leb, ltb};
-ghost use Rattle.machine.specs.Regs.{resetRegisters, withMode, withWrptr, withStateen, topCode, depthOf, physicalOf, goodOf};
+ghost use Rattle.machine.specs.Regs.{resetRegisters, withMode, withControls, withBuffer, withSelects, withWrptr, withFrozen, withEnables, topCode, depthOf, physicalOf, goodBuffer, goodControls, goodOf};
+use crate::Buffer;
+use crate::ControlWords;
+use crate::Enables;
 use crate::Mode;
 use crate::Registers;
+use crate::Selects;
 use crate::controls::MCTRCTL_MASK;
 use crate::controls::SCTRCTL_MASK;
 use crate::controls::within;
@@ -15,52 +19,94 @@ pub const TOP_CODE: u64 = 3;
 pub fn reset() -> Registers
     ensures { λ r. ⌜ r ≡ resetRegisters ⌝ }
 {
-    Registers {
-        mode: Mode::M,
+    let controls = ControlWords {
         mctrctl: 0,
         vsctrctl: 0,
-        sctrdepth: 0,
+    };
+    let buffer = Buffer {
+        code: 0,
         wrptr: 0,
         frozen: false,
+    };
+    let selects = Selects {
         siselect: 0,
         vsiselect: 0,
+    };
+    let enables = Enables {
         mstateen0: false,
         hstateen0: false,
+    };
+    Registers {
+        mode: Mode::M,
+        controls,
+        buffer,
+        selects,
+        enables,
     }
 }
 
 pub fn with_mode(r: Registers, m: Mode) -> Registers
     ensures { λ q. ⌜ q ≡ withMode r m ⌝ }
 {
+    let controls = r.controls;
+    let buffer = r.buffer;
+    let selects = r.selects;
+    let enables = r.enables;
     Registers {
         mode: m,
-        mctrctl: r.mctrctl,
-        vsctrctl: r.vsctrctl,
-        sctrdepth: r.sctrdepth,
-        wrptr: r.wrptr,
-        frozen: r.frozen,
-        siselect: r.siselect,
-        vsiselect: r.vsiselect,
-        mstateen0: r.mstateen0,
-        hstateen0: r.hstateen0,
+        controls,
+        buffer,
+        selects,
+        enables,
     }
+}
+
+pub fn with_controls(r: Registers, c: ControlWords) -> Registers
+    ensures { λ q. ⌜ q ≡ withControls r c ⌝ }
+{
+    let mut q = r;
+    q.controls = c;
+    q
+}
+
+pub fn with_buffer(r: Registers, b: Buffer) -> Registers
+    ensures { λ q. ⌜ q ≡ withBuffer r b ⌝ }
+{
+    let mut q = r;
+    q.buffer = b;
+    q
+}
+
+pub fn with_selects(r: Registers, s: Selects) -> Registers
+    ensures { λ q. ⌜ q ≡ withSelects r s ⌝ }
+{
+    let mut q = r;
+    q.selects = s;
+    q
 }
 
 pub fn with_wrptr(r: Registers, x: u64) -> Registers
     ensures { λ q. ⌜ q ≡ withWrptr r x ⌝ }
 {
     let mut q = r;
-    q.wrptr = x;
+    q.buffer.wrptr = x;
+    q
+}
+
+pub fn with_frozen(r: Registers) -> Registers
+    ensures { λ q. ⌜ q ≡ withFrozen r ⌝ }
+{
+    let mut q = r;
+    q.buffer.frozen = true;
     q
 }
 
 // The host sets the two state-enable bits.
-pub fn with_stateen(r: Registers, m: bool, h: bool) -> Registers
-    ensures { λ q. ⌜ q ≡ withStateen r m h ⌝ }
+pub fn with_enables(r: Registers, e: Enables) -> Registers
+    ensures { λ q. ⌜ q ≡ withEnables r e ⌝ }
 {
     let mut q = r;
-    q.mstateen0 = m;
-    q.hstateen0 = h;
+    q.enables = e;
     q
 }
 
@@ -110,16 +156,35 @@ fn is_code(code: u64) -> bool
     code <= TOP_CODE
 }
 
+fn is_good_buffer(b: Buffer) -> bool
+    ensures { λ x. ⌜ x ≡ goodBuffer b ⌝ }
+{
+    if is_code(b.code) {
+        in_depth(b.wrptr, b.code)
+    } else {
+        false
+    }
+}
+
+fn is_good_controls(c: ControlWords) -> bool
+    ensures { λ x. ⌜ x ≡ goodControls c ⌝ }
+{
+    if within(c.mctrctl, MCTRCTL_MASK) {
+        within(c.vsctrctl, SCTRCTL_MASK)
+    } else {
+        false
+    }
+}
+
 // Whether the registers are free of number 5.
 pub fn is_good(r: Registers) -> bool
     ensures { λ b. ⌜ b ≡ goodOf r ⌝ }
 {
-    if is_code(r.sctrdepth) {
-        if in_depth(r.wrptr, r.sctrdepth) {
-            if within(r.mctrctl, MCTRCTL_MASK) {
-                return within(r.vsctrctl, SCTRCTL_MASK);
-            }
-        }
+    let b = r.buffer;
+    let c = r.controls;
+    if is_good_buffer(b) {
+        is_good_controls(c)
+    } else {
+        false
     }
-    false
 }

@@ -12,22 +12,22 @@ use Rattle.machine.specs.declared.Decision.{Decision}
 use Rattle.machine.specs.declared.Effect.{Effect}
 use Rattle.machine.specs.declared.Effect.the-variants.{Keep, Put, ClearAll}
 use Rattle.access.specs.Accesses as Accesses
-use Rattle.transfers.specs.Outcomes.{stackOutcome, rasemuOf}
+use Rattle.qualifying.specs.Outcomes.{stackOutcome, rasemuOf}
 use Rattle.transfers.specs.Transfers as Transfers
-use Rattle.transfers.specs.declared.Outcome.{Outcome}
-use Rattle.transfers.specs.declared.Outcome.the-variants.{Nothing, Record, Pop, Swap, Freeze}
+use Rattle.machine.specs.declared.Outcome.{Outcome}
+use Rattle.machine.specs.declared.Outcome.the-variants.{Nothing, Record, Pop, Swap, Freeze}
 use Rattle.recorder.specs.Events.{transferIn, atWrptr, retiredFocus, focusOf}
 use Rattle.recorder.specs.Decisions.{decideOf}
 use Rattle.recorder.specs.Entries.{entries, Entries, entryAt, appliedOf, Filled}
 use Rattle.recorder.specs.Steps.{stateOf, entriesIn, focusIn, decidedOf, stepOf, stepped, Whole}
-use Rattle.recorder.specs.declared.Event.{Event}
-use Rattle.recorder.specs.declared.Event.the-variants.{Retired, Trap, TrapReturn, Access, Sctrclr, Host}
+use Rattle.machine.specs.declared.Event.{Event}
+use Rattle.machine.specs.declared.Event.the-variants.{Retired, Trap, TrapReturn, Access, Sctrclr, Host}
 use Rattle.recorder.specs.declared.State.{State}
 use Rattle.recorder.specs.declared.Stepped.{Stepped}
 use Rattle.recorder.specs.declared.Answered.{Answered}
 
-at-wrptr-lt : (r : Registers) → atWrptr r < entries
-at-wrptr-lt r = wrapped-lt (r .wrptr) (r .sctrdepth)
+at-wrptr-lt : (r : Registers) → atWrptr (r .buffer) < entries
+at-wrptr-lt r = wrapped-lt (r .buffer .wrptr) (r .buffer .code)
 
 physical-lt : (code wrptr i : ℕ) → physicalOf code wrptr i < entries
 unfolding physicalOf
@@ -37,27 +37,27 @@ outcome-lt : (r : Registers) (o : Outcome) → Transfers.focusOf r o < entries
 unfolding Transfers.focusOf
 outcome-lt r Nothing = at-wrptr-lt r
 outcome-lt r Record = at-wrptr-lt r
-outcome-lt r Pop = physical-lt (r .sctrdepth) (r .wrptr) 0
-outcome-lt r Swap = physical-lt (r .sctrdepth) (r .wrptr) 0
+outcome-lt r Pop = physical-lt (r .buffer .code) (r .buffer .wrptr) 0
+outcome-lt r Swap = physical-lt (r .buffer .code) (r .buffer .wrptr) 0
 outcome-lt r Freeze = at-wrptr-lt r
 
-retired-lt : (r : Registers) (t : Transfer) (b : Bool) → (if b then Transfers.focusOf r (stackOutcome t) else atWrptr r) < entries
+retired-lt : (r : Registers) (t : Transfer) (b : Bool) → (if b then Transfers.focusOf r (stackOutcome t) else atWrptr (r .buffer)) < entries
 retired-lt r t true = outcome-lt r (stackOutcome t)
 retired-lt r t false = at-wrptr-lt r
 
 -- the entry in focus is one of the entries, of bad registers too
 pub focus-lt : (r : Registers) (t : Transfer) (e : Event) → focusOf r t e < entries
 unfolding focusOf retiredFocus Accesses.focusOf
-focus-lt r t (Retired word pc target taken) = retired-lt r t (rasemuOf r (r .mode) (r .mode))
-focus-lt r t (Trap to interrupt cause epc handler) = at-wrptr-lt r
-focus-lt r t (TrapReturn to pc target) = at-wrptr-lt r
-focus-lt r t (Access operation number operand) = physical-lt (r .sctrdepth) (r .wrptr) _
+focus-lt r t (Retired w) = retired-lt r t (rasemuOf r (r .mode) (r .mode))
+focus-lt r t (Trap x) = at-wrptr-lt r
+focus-lt r t (TrapReturn x) = at-wrptr-lt r
+focus-lt r t (Access a) = physical-lt (r .buffer .code) (r .buffer .wrptr) _
 focus-lt r t Sctrclr = at-wrptr-lt r
-focus-lt r t (Host mstateen0 hstateen0) = at-wrptr-lt r
+focus-lt r t (Host h) = at-wrptr-lt r
 
 -- what `step_in_place` does: the transfer, the focus and the decision, and then the effect
 pub in-place : (w v : Entries) (r : Registers) (e : Event) (at : ℕ) (t : Transfer) (d : Decision)
-    → t ≡ transferIn e → at ≡ focusOf r t e → d ≡ decideOf r (entryAt w at) t e → v ≡ appliedOf w (d .effect) at
+    → t ≡ transferIn r e → at ≡ focusOf r t e → d ≡ decideOf r (entryAt w at) t e → v ≡ appliedOf w (d .effect) at
     → _≡_ {A = Stepped} (stepOf (stateOf r w) e)
     (record { number = d .number; value = d .value; state = stateOf (d .registers) v })
 unfolding stepOf decidedOf focusIn

@@ -2,3 +2,4 @@ pub mod Events
 pub mod Decisions
 pub mod Entries
 pub mod Steps
+pub mod Runs

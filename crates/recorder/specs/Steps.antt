@@ -6,7 +6,7 @@ use Rattle.machine.specs.declared.Decision.{Decision}
 use Rattle.recorder.specs.Events.{transferIn, focusOf}
 use Rattle.recorder.specs.Decisions.{decideOf}
 use Rattle.recorder.specs.Entries.{Entries, entriesOf, cleared, entryAt, appliedOf, Filled}
-use Rattle.recorder.specs.declared.Event.{Event}
+use Rattle.machine.specs.declared.Event.{Event}
 use Rattle.recorder.specs.declared.State.{State}
 use Rattle.recorder.specs.declared.Stepped.{Stepped}
 use Rattle.recorder.specs.declared.Answered.{Answered}
@@ -20,11 +20,11 @@ entriesIn s = entriesOf (s .ctrsource) (s .ctrtarget) (s .ctrdata)
 
 -- the physical entry that an event is about
 unfoldable pub focusIn : State → Event → ℕ
-focusIn s e = focusOf (s .registers) (transferIn e) e
+focusIn s e = focusOf (s .registers) (transferIn (s .registers) e) e
 
 -- what an event decides
 unfoldable pub decidedOf : State → Event → Decision
-decidedOf s e = decideOf (s .registers) (entryAt (entriesIn s) (focusIn s e)) (transferIn e) e
+decidedOf s e = decideOf (s .registers) (entryAt (entriesIn s) (focusIn s e)) (transferIn (s .registers) e) e
 
 -- one event: the answer, and every field and entry afterwards
 unfoldable pub stepOf : State → Event → Stepped

@@ -1,11 +1,12 @@
 // What an event decides, given the registers and the entry that it is about.
 ghost use mathlib.Core.Path.{_≡_};
 ghost use Rattle.recorder.specs.Decisions.{eventOf, decideOf};
-use crate::Event;
 use classifier::Transfer;
 use machine::Decision;
 use machine::Entry;
+use machine::Event;
 use machine::Registers;
+use machine::Verdict;
 use machine::answers::refuse;
 use machine::regs::is_good;
 
@@ -14,36 +15,12 @@ fn decide_event(r: Registers, old: Entry, t: Transfer, e: Event) -> Decision
     ensures { λ d. ⌜ d ≡ eventOf r old t e ⌝ }
 {
     match e {
-        Event::Retired {
-            word: _,
-            pc,
-            target,
-            taken,
-        } => transfers::decisions::retired(r, old, t, taken, pc, target),
-        Event::Trap {
-            to,
-            interrupt,
-            cause,
-            epc,
-            handler,
-        } => transfers::decisions::trap(r, old, to, interrupt, cause, epc, handler),
-        Event::TrapReturn { to, pc, target } => transfers::decisions::trap_return(
-            r,
-            old,
-            to,
-            pc,
-            target,
-        ),
-        Event::Access {
-            operation,
-            number,
-            operand,
-        } => access::accesses::access(r, old, operation, number, operand),
+        Event::Retired(w) => transfers::decisions::retired(r, old, t, w),
+        Event::Trap(x) => transfers::decisions::trap(r, old, x),
+        Event::TrapReturn(x) => transfers::decisions::trap_return(r, old, x),
+        Event::Access(a) => access::accesses::access(r, old, a),
         Event::Sctrclr => access::accesses::sctrclr(r),
-        Event::Host {
-            mstateen0,
-            hstateen0,
-        } => access::accesses::host(r, mstateen0, hstateen0),
+        Event::Host(h) => access::accesses::host(r, h),
     }
 }
 
@@ -54,6 +31,6 @@ pub fn decide(r: Registers, old: Entry, t: Transfer, e: Event) -> Decision
     if is_good(r) {
         decide_event(r, old, t, e)
     } else {
-        refuse(r, 5)
+        refuse(r, Verdict::BadState)
     }
 }

@@ -1,51 +1,37 @@
 // What an event is about: the transfer of its word, and the one entry it may change.
 ghost use mathlib.Core.Path.{_≡_};
 ghost use Prim.Native.Nat.{_<_};
-ghost use Rattle.transfers.specs.Outcomes.{stackOutcome};
+ghost use Rattle.qualifying.specs.Outcomes.{stackOutcome};
 ghost use Rattle.transfers.specs.Transfers as Transfers;
-ghost use Rattle.recorder.specs.Events.{transferIn, retiredFocus, focusOf};
+ghost use Rattle.recorder.specs.Events.{transferIn, atWrptr, retiredFocus, focusOf};
 ghost use Rattle.recorder.specs.Entries.{entries};
-use crate::Event;
 use classifier::Transfer;
+use machine::Buffer;
+use machine::Event;
 use machine::Registers;
 use machine::regs::wrapped;
-use transfers::outcomes::rasemu;
-use transfers::outcomes::stack_outcome;
+use qualifying::outcomes::rasemu;
+use qualifying::outcomes::stack_outcome;
 
 // The transfer that a retired word is; other events have none.
-pub fn transfer(e: Event) -> Transfer
-    ensures { λ t. ⌜ t ≡ transferIn e ⌝ }
+pub fn transfer(r: Registers, e: Event) -> Transfer
+    ensures { λ t. ⌜ t ≡ transferIn r e ⌝ }
 {
     match e {
-        Event::Retired {
-            word,
-            pc: _,
-            target: _,
-            taken: _,
-        } => classifier::classify(word),
-        Event::Trap {
-            to: _,
-            interrupt: _,
-            cause: _,
-            epc: _,
-            handler: _,
-        } => Transfer::None,
-        Event::TrapReturn {
-            to: _,
-            pc: _,
-            target: _,
-        } => Transfer::None,
-        Event::Access {
-            operation: _,
-            number: _,
-            operand: _,
-        } => Transfer::None,
+        Event::Retired(w) => classifier::classify(w.word),
+        Event::Trap(_) => Transfer::None,
+        Event::TrapReturn(_) => Transfer::None,
+        Event::Access(_) => Transfer::None,
         Event::Sctrclr => Transfer::None,
-        Event::Host {
-            mstateen0: _,
-            hstateen0: _,
-        } => Transfer::None,
+        Event::Host(_) => Transfer::None,
     }
+}
+
+// The physical entry at WRPTR.
+fn at_wrptr(b: Buffer) -> u64
+    ensures { λ n. ⌜ n ≡ atWrptr b ⌝ }
+{
+    wrapped(b.wrptr, b.code)
 }
 
 // The physical entry that the call stack's outcome is about.
@@ -60,10 +46,11 @@ fn retired_focus(r: Registers, t: Transfer) -> u64
     ensures { λ n. ⌜ n ≡ retiredFocus r t ⌝ }
 {
     let m = r.mode;
+    let b = r.buffer;
     if rasemu(r, m, m) {
         stack_focus(r, t)
     } else {
-        wrapped(r.wrptr, r.sctrdepth)
+        at_wrptr(b)
     }
 }
 
@@ -71,35 +58,14 @@ fn retired_focus(r: Registers, t: Transfer) -> u64
 fn focus(r: Registers, t: Transfer, e: Event) -> u64
     ensures { λ n. ⌜ n ≡ focusOf r t e ⌝ }
 {
+    let b = r.buffer;
     match e {
-        Event::Retired {
-            word: _,
-            pc: _,
-            target: _,
-            taken: _,
-        } => retired_focus(r, t),
-        Event::Trap {
-            to: _,
-            interrupt: _,
-            cause: _,
-            epc: _,
-            handler: _,
-        } => wrapped(r.wrptr, r.sctrdepth),
-        Event::TrapReturn {
-            to: _,
-            pc: _,
-            target: _,
-        } => wrapped(r.wrptr, r.sctrdepth),
-        Event::Access {
-            operation: _,
-            number,
-            operand: _,
-        } => access::accesses::focus(r, number),
-        Event::Sctrclr => wrapped(r.wrptr, r.sctrdepth),
-        Event::Host {
-            mstateen0: _,
-            hstateen0: _,
-        } => wrapped(r.wrptr, r.sctrdepth),
+        Event::Retired(_) => retired_focus(r, t),
+        Event::Trap(_) => at_wrptr(b),
+        Event::TrapReturn(_) => at_wrptr(b),
+        Event::Access(a) => access::accesses::focus(r, a.number),
+        Event::Sctrclr => at_wrptr(b),
+        Event::Host(_) => at_wrptr(b),
     }
 }
 

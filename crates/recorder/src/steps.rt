@@ -5,7 +5,6 @@ ghost use Rattle.recorder.specs.Entries.{entries, entriesOf, appliedOf};
 ghost use Rattle.recorder.specs.Steps.{stateOf, stepped, stepOf, resetState, Whole};
 use crate::Answered;
 use crate::ENTRIES;
-use crate::Event;
 use crate::State;
 use crate::Stepped;
 use crate::decide::decide;
@@ -13,6 +12,7 @@ use crate::events::place;
 use crate::events::transfer;
 use machine::Effect;
 use machine::Entry;
+use machine::Event;
 use machine::Registers;
 
 // The state at reset.
@@ -65,7 +65,7 @@ pub fn step_in_place(
 ) -> Answered
     ensures { λ a. ⌜ stepOf (stateOf r (entriesOf (now (ctrsource .entry)) (now (ctrtarget .entry)) (now (ctrdata .entry)))) e ≡ stepped a (entriesOf (now (ctrsource .exit)) (now (ctrtarget .exit)) (now (ctrdata .exit))) ⌝ }
 {
-    let t = transfer(e);
+    let t = transfer(r, e);
     let at = place(r, t, e);
     let old = Entry {
         ctrsource: ctrsource[at],

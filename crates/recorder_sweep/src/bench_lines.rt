@@ -1,8 +1,13 @@
 // The published cases: runs from reset, and the answer to the last event of each.
-use access::Operation;
 use libc::STDOUT_FILENO;
+use machine::CsrAccess;
+use machine::Enables;
+use machine::Event;
 use machine::Mode;
-use recorder::Event;
+use machine::Operation;
+use machine::RetiredWord;
+use machine::ReturnTo;
+use machine::TrapTo;
 use recorder::State;
 use recorder::steps::reset;
 use recorder::steps::step;
@@ -30,71 +35,71 @@ fn after(s: State, e: Event) -> State {
 }
 
 fn read(number: u64) -> Event {
-    Event::Access {
+    Event::Access(CsrAccess {
         operation: Operation::Read,
         number,
         operand: 0,
-    }
+    })
 }
 
 fn write(s: State, number: u64, operand: u64) -> State {
     after(
         s,
-        Event::Access {
+        Event::Access(CsrAccess {
             operation: Operation::Write,
             number,
             operand,
-        },
+        }),
     )
 }
 
 fn host(s: State, mstateen0: bool, hstateen0: bool) -> State {
     after(
         s,
-        Event::Host {
+        Event::Host(Enables {
             mstateen0,
             hstateen0,
-        },
+        }),
     )
 }
 
-fn sret(s: State, to: Mode) -> State {
+fn sret(s: State, mode: Mode) -> State {
     after(
         s,
-        Event::TrapReturn {
-            to,
+        Event::TrapReturn(ReturnTo {
+            mode,
             pc: 0x4000,
             target: 0x5000,
-        },
+        }),
     )
 }
 
 fn trap_to_m() -> Event {
-    Event::Trap {
-        to: Mode::M,
+    Event::Trap(TrapTo {
+        mode: Mode::M,
         interrupt: false,
         cause: 8,
         epc: 0x6000,
         handler: 0x7000,
-    }
+    })
 }
 
 fn jal() -> Event {
-    Event::Retired {
+    Event::Retired(RetiredWord {
         word: 0x0000_00EF,
         pc: 0x1000,
         target: 0x2000,
         taken: false,
-    }
+    })
 }
 
 fn function_return() -> Event {
-    Event::Retired {
+    Event::Retired(RetiredWord {
         word: 0x0000_8067,
         pc: 0x3000,
         target: 0x1004,
         taken: false,
-    }
+    })
 }
 
 // The answer to an event.

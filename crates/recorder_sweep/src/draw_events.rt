@@ -1,6 +1,11 @@
 // Random events. What draws is given the last word drawn.
+use machine::CsrAccess;
+use machine::Enables;
+use machine::Event;
 use machine::Mode;
-use recorder::Event;
+use machine::RetiredWord;
+use machine::ReturnTo;
+use machine::TrapTo;
 use sweep_support::codes::mode_of;
 use sweep_support::codes::operation_of;
 use test_support::xorshift64;
@@ -81,12 +86,12 @@ fn word_of(w: u64) -> u32 {
 }
 
 fn retired(w: u64, pc: u64, target: u64, taken: bool) -> Event {
-    Event::Retired {
+    Event::Retired(RetiredWord {
         word: word_of(w),
         pc,
         target,
         taken,
-    }
+    })
 }
 
 // A retired word by itself.
@@ -170,13 +175,13 @@ fn cause_of(choice: u64, other: u64) -> u64 {
 }
 
 fn trap(mode: Mode, c: u64, w: u64, epc: u64, handler: u64) -> Event {
-    Event::Trap {
-        to: trap_target(mode, c),
+    Event::Trap(TrapTo {
+        mode: trap_target(mode, c),
         interrupt: c / 16 % 2 == 1,
         cause: cause_of(c / 32, w),
         epc,
         handler,
-    }
+    })
 }
 
 // Any word, or one that suits a control register, sctrstatus, a selection or a depth code.
@@ -196,11 +201,26 @@ fn operand(choice: u64, z: u64) -> u64 {
 
 fn access(c: u64, w: u64, z: u64) -> Event {
     let at = (w % 32) as usize;
-    Event::Access {
+    Event::Access(CsrAccess {
         operation: operation_of(c),
         number: NUMBERS[at],
         operand: operand(c / 4, z),
-    }
+    })
+}
+
+fn trap_return(mode: Mode, c: u64, pc: u64, target: u64) -> Event {
+    Event::TrapReturn(ReturnTo {
+        mode: return_target(mode, c),
+        pc,
+        target,
+    })
+}
+
+fn host(c: u64) -> Event {
+    Event::Host(Enables {
+        mstateen0: c % 4 != 0,
+        hstateen0: c / 4 % 4 != 0,
+    })
 }
 
 fn event_of(mode: Mode, k: u64, w: u64, x: u64, y: u64, z: u64) -> Event {
@@ -208,17 +228,10 @@ fn event_of(mode: Mode, k: u64, w: u64, x: u64, y: u64, z: u64) -> Event {
     match k % 64 {
         0..=29 => retired(w, x, y, c % 2 == 1),
         30..=37 => trap(mode, c, w, x, y),
-        38..=45 => Event::TrapReturn {
-            to: return_target(mode, c),
-            pc: x,
-            target: y,
-        },
+        38..=45 => trap_return(mode, c, x, y),
         46..=61 => access(c, w, z),
         62 => Event::Sctrclr,
-        _ => Event::Host {
-            mstateen0: c % 4 != 0,
-            hstateen0: c / 4 % 4 != 0,
-        },
+        _ => host(c),
     }
 }
 

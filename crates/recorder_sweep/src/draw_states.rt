@@ -1,5 +1,9 @@
 // Random start states. What draws is given the last word drawn.
+use machine::Buffer;
+use machine::ControlWords;
+use machine::Enables;
 use machine::Registers;
+use machine::Selects;
 use machine::controls::MCTRCTL_MASK;
 use machine::controls::SCTRCTL_MASK;
 use recorder::ENTRIES;
@@ -22,31 +26,57 @@ fn allowed(choice: u64) -> u64 {
     }
 }
 
-fn good_registers(a: u64, b: u64, c: u64, d: u64, f: u64) -> Registers {
-    let code = a / 5 % 4;
+fn good_controls(a: u64, b: u64, c: u64) -> ControlWords {
     let bits = allowed(a / 2560);
-    Registers {
-        mode: mode_of(a),
+    ControlWords {
         mctrctl: b & MCTRCTL_MASK & bits,
         vsctrctl: c & SCTRCTL_MASK & bits,
-        sctrdepth: code,
+    }
+}
+
+fn good_buffer(a: u64, d: u64) -> Buffer {
+    let code = a / 5 % 4;
+    Buffer {
+        code,
         wrptr: machine::regs::wrapped(d, code),
         frozen: a / 20 % 8 == 0,
+    }
+}
+
+fn selects_of(f: u64) -> Selects {
+    Selects {
         siselect: 0x200 + f % 0x100,
         vsiselect: 0x200 + f / 0x100 % 0x100,
+    }
+}
+
+fn enables_of(a: u64) -> Enables {
+    Enables {
         mstateen0: a / 160 % 4 != 0,
         hstateen0: a / 640 % 4 != 0,
     }
 }
 
+fn past_the_depth(code: u64, d: u64) -> u64 {
+    std::num::wrapping_add_u64(machine::regs::depth(code), d % 1000)
+}
+
 // One of four is spoiled, in one of the four ways that number 5 is about.
-fn spoiled(r: Registers, choice: u64, d: u64) -> Registers {
-    let mut q = r;
+fn spoiled_buffer(b: Buffer, choice: u64, d: u64) -> Buffer {
+    let mut q = b;
     match choice % 16 {
-        0 => q.sctrdepth = 4 + d % 1000,
-        1 => q.wrptr = std::num::wrapping_add_u64(machine::regs::depth(r.sctrdepth), d % 1000),
-        2 => q.mctrctl = r.mctrctl | 0x8,
-        3 => q.vsctrctl = r.vsctrctl | 0x4,
+        0 => q.code = 4 + d % 1000,
+        1 => q.wrptr = past_the_depth(b.code, d),
+        _ => {}
+    }
+    q
+}
+
+fn spoiled_controls(c: ControlWords, choice: u64) -> ControlWords {
+    let mut q = c;
+    match choice % 16 {
+        2 => q.mctrctl = c.mctrctl | 0x8,
+        3 => q.vsctrctl = c.vsctrctl | 0x4,
         _ => {}
     }
     q
@@ -58,9 +88,15 @@ pub(crate) fn draw_registers(random: u64) -> Start {
     let c = xorshift64(b);
     let d = xorshift64(c);
     let f = xorshift64(d);
-    let good = good_registers(a, b, c, d, f);
+    let registers = Registers {
+        mode: mode_of(a),
+        controls: spoiled_controls(good_controls(a, b, c), a / 10240),
+        buffer: spoiled_buffer(good_buffer(a, d), a / 10240, d),
+        selects: selects_of(f),
+        enables: enables_of(a),
+    };
     Start {
-        registers: spoiled(good, a / 10240, d),
+        registers,
         random: f,
     }
 }

@@ -1,8 +1,10 @@
 // What the random lists ask of an event.
+use machine::Event;
 use machine::Mode;
 use machine::Registers;
+use machine::ReturnTo;
+use machine::TrapTo;
 use machine::modes::is_on;
-use recorder::Event;
 use std::num::wrapping_add_u64;
 use sweep_support::codes::flag;
 
@@ -14,7 +16,7 @@ struct Addresses {
 
 pub(crate) fn is_retired(e: Event) -> bool {
     match e {
-        Event::Retired { .. } => true,
+        Event::Retired(_) => true,
         _ => false,
     }
 }
@@ -22,20 +24,23 @@ pub(crate) fn is_retired(e: Event) -> bool {
 // Whether the value answered tells what was recorded.
 pub(crate) fn is_transfer(e: Event) -> bool {
     match e {
-        Event::Retired { .. } => true,
-        Event::Trap { .. } => true,
-        Event::TrapReturn { .. } => true,
+        Event::Retired(_) => true,
+        Event::Trap(_) => true,
+        Event::TrapReturn(_) => true,
         _ => false,
     }
 }
 
 fn addresses_of(e: Event) -> Addresses {
     match e {
-        Event::Trap { epc, handler, .. } => Addresses {
-            source: epc,
-            target: handler,
+        Event::Trap(t) => Addresses {
+            source: t.epc,
+            target: t.handler,
         },
-        Event::TrapReturn { pc, target, .. } => Addresses { source: pc, target },
+        Event::TrapReturn(t) => Addresses {
+            source: t.pc,
+            target: t.target,
+        },
         _ => Addresses {
             source: 0,
             target: 0,
@@ -60,14 +65,48 @@ fn chosen(is_other: bool, address: u64, other: u64) -> u64 {
     if is_other { other } else { address }
 }
 
-// The address on the source side, or another where each run is in a mode that is off.
-fn source_address(a: Registers, b: Registers, address: u64, other: u64) -> u64 {
-    chosen(is_off(a) && is_off(b), address, other)
+// Where each side is off in both runs: the source side, and that of a target mode.
+struct BothOff {
+    source: bool,
+    target: bool,
 }
 
-// The address on the target side, or another where the target mode is off in both runs.
-fn target_address(a: Registers, b: Registers, to: Mode, address: u64, other: u64) -> u64 {
-    chosen(!is_on(a, to) && !is_on(b, to), address, other)
+fn both_off(a: Registers, b: Registers, to: Mode) -> BothOff {
+    BothOff {
+        source: is_off(a) && is_off(b),
+        target: !is_on(a, to) && !is_on(b, to),
+    }
+}
+
+fn trap_with(t: TrapTo, off: BothOff, source: u64, target: u64) -> Event {
+    let mut u = t;
+    u.epc = chosen(off.source, t.epc, source);
+    u.handler = chosen(off.target, t.handler, target);
+    Event::Trap(u)
+}
+
+fn return_with(t: ReturnTo, off: BothOff, source: u64, target: u64) -> Event {
+    let mut u = t;
+    u.pc = chosen(off.source, t.pc, source);
+    u.target = chosen(off.target, t.target, target);
+    Event::TrapReturn(u)
+}
+
+// The mode that an event goes to; of others M, of which nothing is asked.
+fn mode_to(e: Event) -> Mode {
+    match e {
+        Event::Trap(t) => t.mode,
+        Event::TrapReturn(t) => t.mode,
+        _ => Mode::M,
+    }
+}
+
+fn event_with(e: Event, off: BothOff, source: u64, target: u64) -> Event {
+    match e {
+        Event::Trap(t) => trap_with(t, off, source, target),
+        Event::TrapReturn(t) => return_with(t, off, source, target),
+        _ => e,
+    }
 }
 
 // The event that run B gets for A's: with other addresses where that side is off in both runs.
@@ -78,29 +117,5 @@ pub(crate) fn with_addresses(
     source: u64,
     target: u64,
 ) -> Event {
-    match e {
-        Event::Trap {
-            to,
-            interrupt,
-            cause,
-            epc,
-            handler,
-        } => Event::Trap {
-            to,
-            interrupt,
-            cause,
-            epc: source_address(a, b, epc, source),
-            handler: target_address(a, b, to, handler, target),
-        },
-        Event::TrapReturn {
-            to,
-            pc,
-            target: old,
-        } => Event::TrapReturn {
-            to,
-            pc: source_address(a, b, pc, source),
-            target: target_address(a, b, to, old, target),
-        },
-        _ => e,
-    }
+    event_with(e, both_off(a, b, mode_to(e)), source, target)
 }

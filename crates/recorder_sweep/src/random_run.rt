@@ -6,6 +6,8 @@ use crate::events::is_transfer;
 use crate::states::digest_state;
 use libc::STDOUT_FILENO;
 use machine::Registers;
+use machine::answers::number_place;
+use machine::answers::value_place;
 use machine::regs::is_good;
 use recorder::ENTRIES;
 use recorder::steps::step_in_place;
@@ -44,10 +46,12 @@ fn events_from(good: bool) -> u64 {
 fn tallied(t: Tally, transfer: bool, number: u64, value: u64) -> Tally {
     let mut next = t;
     next.events = wrapping_add_u64(next.events, 1);
-    let k = (number % 6) as usize;
-    next.numbers[k] = wrapping_add_u64(next.numbers[k], 1);
-    if transfer && number == 0 {
-        let v = (value % 5) as usize;
+    let k = number_place(number) as usize;
+    if k < 6 {
+        next.numbers[k] = wrapping_add_u64(next.numbers[k], 1);
+    }
+    let v = value_place(value) as usize;
+    if transfer && number == 0 && v < 5 {
         next.values[v] = wrapping_add_u64(next.values[v], 1);
     }
     next.answers = digest_answer(next.answers, number, value);

@@ -1,6 +1,11 @@
 // Whole states: their digest, and whether two are equal.
+use machine::Buffer;
+use machine::ControlWords;
+use machine::Enables;
 use machine::Entry;
+use machine::Mode;
 use machine::Registers;
+use machine::Selects;
 use recorder::ENTRIES;
 use recorder::State;
 use sweep_support::codes::mode_code;
@@ -27,19 +32,42 @@ pub(crate) fn digest_state(
     d
 }
 
+fn same_controls(a: ControlWords, b: ControlWords) -> bool {
+    a.mctrctl == b.mctrctl && a.vsctrctl == b.vsctrctl
+}
+
+fn same_buffer(a: Buffer, b: Buffer) -> bool {
+    a.code == b.code && a.wrptr == b.wrptr && a.frozen == b.frozen
+}
+
+fn same_selects(a: Selects, b: Selects) -> bool {
+    a.siselect == b.siselect && a.vsiselect == b.vsiselect
+}
+
+fn same_enables(a: Enables, b: Enables) -> bool {
+    a.mstateen0 == b.mstateen0 && a.hstateen0 == b.hstateen0
+}
+
+fn same_mode(a: Mode, b: Mode) -> bool {
+    mode_code(a) == mode_code(b)
+}
+
 fn same_registers(a: Registers, b: Registers) -> bool {
     let m = a.mode;
     let n = b.mode;
-    mode_code(m) == mode_code(n)
-        && a.mctrctl == b.mctrctl
-        && a.vsctrctl == b.vsctrctl
-        && a.sctrdepth == b.sctrdepth
-        && a.wrptr == b.wrptr
-        && a.frozen == b.frozen
-        && a.siselect == b.siselect
-        && a.vsiselect == b.vsiselect
-        && a.mstateen0 == b.mstateen0
-        && a.hstateen0 == b.hstateen0
+    let c = a.controls;
+    let d = b.controls;
+    let e = a.buffer;
+    let f = b.buffer;
+    let s = a.selects;
+    let t = b.selects;
+    let x = a.enables;
+    let y = b.enables;
+    same_mode(m, n)
+        & same_controls(c, d)
+        & same_buffer(e, f)
+        & same_selects(s, t)
+        & same_enables(x, y)
 }
 
 fn same_words(a: &[u64; ENTRIES], b: &[u64; ENTRIES]) -> bool {

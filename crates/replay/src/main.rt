@@ -16,13 +16,15 @@ enum Flag {
     Unknown,
 }
 
-// What the flags ask for, and the number of the first argument after them.
+// What the flags ask for, the number of the first argument after them, and whether there are several
+// traces.
 struct Options {
     answers: bool,
     state: bool,
     help: bool,
     is_known: bool,
     first: usize,
+    several: bool,
 }
 
 fn is(argument: &[u8], name: &[u8]) -> bool {
@@ -86,12 +88,14 @@ fn read_options(count: usize) -> Options {
         help: false,
         is_known: true,
         first: count,
+        several: false,
     };
     let mut i = 1;
     while i < count && o.first == count && o.is_known && !o.help {
         o = read_argument(o, i);
         i += 1;
     }
+    o.several = o.first < count && count - o.first > 1;
     o
 }
 
@@ -103,30 +107,22 @@ fn print_usage() {
 }
 
 // Argument i as a trace.
-fn run_argument(out: &mut [u8], at: usize, i: usize, is_one_of_several: bool, o: Options) -> usize {
+fn run_argument(out: &mut [u8], at: usize, i: usize, o: Options) -> usize {
     let mut buffer = io::buffer();
     let length = os::arg(i, &mut buffer);
     if os::errno() != 0 {
         os::fail(b"replay: a trace's name");
         return at;
     }
-    runs::replay(
-        out,
-        at,
-        text::before(&buffer, length),
-        is_one_of_several,
-        o.answers,
-        o.state,
-    )
+    runs::replay(out, at, text::before(&buffer, length), o)
 }
 
 fn run_traces(count: usize, o: Options) {
     let mut out = io::large_buffer();
     let mut at = 0;
     let mut i = o.first;
-    let is_one_of_several = o.first < count && count - o.first > 1;
     while i < count {
-        at = run_argument(&mut out, at, i, is_one_of_several, o);
+        at = run_argument(&mut out, at, i, o);
         i += 1;
     }
     output::flush(&out, at);

@@ -16,15 +16,23 @@ pub(crate) fn unreadable(name: &[u8]) {
     os::fail(text::before(&line, at));
 }
 
+fn write_line(line: &[u8], at: usize) {
+    io::write_all(STDERR_FILENO, text::before(line, at));
+}
+
+// Words, and a number after them.
+fn put_number(line: &mut [u8], at: usize, words: &[u8], n: u64) -> usize {
+    let next = text::put(line, at, words);
+    text::put_decimal(line, next, n)
+}
+
 pub(crate) fn malformed(name: &[u8], row: u64, word: u64) {
     let mut line = [0u8; LONGEST];
     let mut at = put_file(&mut line, name);
-    at = text::put(&mut line, at, b": row ");
-    at = text::put_decimal(&mut line, at, row);
-    at = text::put(&mut line, at, b": word ");
-    at = text::put_decimal(&mut line, at, word);
+    at = put_number(&mut line, at, b": row ", row);
+    at = put_number(&mut line, at, b": word ", word);
     at = text::put(&mut line, at, b" breaks a rule\n");
-    io::write_all(STDERR_FILENO, text::before(&line, at));
+    write_line(&line, at);
 }
 
 // Where the bytes that are no whole row lie.
@@ -32,14 +40,13 @@ fn put_where(line: &mut [u8], at: usize, rows: u64) -> usize {
     if rows == 0 {
         text::put(line, at, b" and no row\n")
     } else {
-        let next = text::put(line, at, b" left over after row ");
-        let end = text::put_decimal(line, next, rows - 1);
-        text::put_byte(line, end, b'\n')
+        let next = put_number(line, at, b" left over after row ", rows - 1);
+        text::put_byte(line, next, b'\n')
     }
 }
 
 fn put_bytes(line: &mut [u8], at: usize, count: u64) -> usize {
-    let next = text::put_decimal(line, at, count);
+    let next = put_number(line, at, b": ", count);
     if count == 1 {
         text::put(line, next, b" byte")
     } else {
@@ -50,10 +57,9 @@ fn put_bytes(line: &mut [u8], at: usize, count: u64) -> usize {
 pub(crate) fn left_over(name: &[u8], count: u64, rows: u64) {
     let mut line = [0u8; LONGEST];
     let mut at = put_file(&mut line, name);
-    at = text::put(&mut line, at, b": ");
     at = put_bytes(&mut line, at, count);
     at = put_where(&mut line, at, rows);
-    io::write_all(STDERR_FILENO, text::before(&line, at));
+    write_line(&line, at);
 }
 
 pub(crate) fn unknown_flag(flag: &[u8]) {
@@ -61,7 +67,7 @@ pub(crate) fn unknown_flag(flag: &[u8]) {
     let mut at = text::put(&mut line, 0, b"replay: unknown flag ");
     at = text::put(&mut line, at, flag);
     at = text::put_byte(&mut line, at, b'\n');
-    io::write_all(STDERR_FILENO, text::before(&line, at));
+    write_line(&line, at);
 }
 
 pub(crate) fn no_trace() {

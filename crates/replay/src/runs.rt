@@ -1,20 +1,29 @@
 // A trace from its file through the recorder, in blocks.
 ghost use Prim.Native.Nat.{_+_, _*_, _<_};
 ghost use lib.ListN.{length};
+use crate::Options;
+use crate::output::end_line;
 use crate::output::flush;
-use crate::output::make_room;
 use crate::problems;
 use crate::report::COUNTS;
 use crate::report::put_counts;
-use crate::report::put_state;
+use crate::report::put_entries_if;
+use crate::report::put_history;
+use crate::report::put_registers;
+use machine::Event;
 use machine::Registers;
+use machine::answers::NUMBERS;
+use machine::answers::number_place;
+use machine::answers::value_place;
 use recorder::Answered;
 use recorder::ENTRIES;
-use recorder::Event;
 use recorder::steps::reset;
 use recorder::steps::step_in_place;
 use std::num::wrapping_add_u64;
 use trace::Row;
+
+// How many bytes are read at a time.
+const BLOCK: usize = 65536;
 
 // The word index of a row that breaks no rule.
 const WHOLE: u64 = 4;
@@ -25,17 +34,12 @@ struct Block {
     failed: bool,
 }
 
-// An open file, and whether the answers are asked for.
-struct File {
-    fd: i32,
-    answers: bool,
-}
-
-// A run under way but for its entries and counts: the registers, the place on the page, the rows
-// run, the word that broke a rule (or WHOLE), the bytes left over, whether a read failed, and
-// whether there may be more to read.
+// A run under way but for its entries and counts: the registers, whether the answers are asked for,
+// the place on the page, the rows run, the word that broke a rule (or WHOLE), the bytes left over,
+// whether a read failed, and whether there may be more to read.
 struct Run {
     registers: Registers,
+    answers: bool,
     at: usize,
     rows: u64,
     word: u64,
@@ -48,48 +52,55 @@ fn widened(byte: u8) -> u64 {
     byte as u64
 }
 
-// Word k of the input.
-fn word_at(input: &[u8], k: usize) -> u64
-    requires { ⌜ 8 * k + 7 < length (now input) ⌝ }
+// The word at a byte of the input.
+fn word_at(input: &[u8], at: usize) -> u64
+    requires { ⌜ at + 7 < length (now input) ⌝ }
 {
-    widened(input[8 * k])
-        | (widened(input[8 * k + 1]) << 8)
-        | (widened(input[8 * k + 2]) << 16)
-        | (widened(input[8 * k + 3]) << 24)
-        | (widened(input[8 * k + 4]) << 32)
-        | (widened(input[8 * k + 5]) << 40)
-        | (widened(input[8 * k + 6]) << 48)
-        | (widened(input[8 * k + 7]) << 56)
+    widened(input[at])
+        | (widened(input[at + 1]) << 8)
+        | (widened(input[at + 2]) << 16)
+        | (widened(input[at + 3]) << 24)
+        | (widened(input[at + 4]) << 32)
+        | (widened(input[at + 5]) << 40)
+        | (widened(input[at + 6]) << 48)
+        | (widened(input[at + 7]) << 56)
 }
 
 // Row i of the input.
 fn row_at(input: &[u8], i: usize) -> Row
     requires { ⌜ 32 * i + 31 < length (now input) ⌝ }
 {
+    let at = 32 * i;
     trace::rows::decode(
-        word_at(input, 4 * i),
-        word_at(input, 4 * i + 1),
-        word_at(input, 4 * i + 2),
-        word_at(input, 4 * i + 3),
+        word_at(input, at),
+        word_at(input, at + 8),
+        word_at(input, at + 16),
+        word_at(input, at + 24),
     )
 }
 
 // Whether the value answered tells what was recorded.
 fn is_transfer(e: Event) -> bool {
     match e {
-        Event::Retired { .. } => true,
-        Event::Trap { .. } => true,
-        Event::TrapReturn { .. } => true,
+        Event::Retired(_) => true,
+        Event::Trap(_) => true,
+        Event::TrapReturn(_) => true,
         _ => false,
     }
 }
 
+fn count(counts: &mut [u64; COUNTS], place: u64)
+    requires { ⌜ place < 13 ⌝ }
+{
+    let k = place as usize;
+    counts[k] = wrapping_add_u64(counts[k], 1);
+}
+
+// An answer among the counts of numbers and, of a transfer that is answered, of values.
 fn count_answer(counts: &mut [u64; COUNTS], transfer: bool, number: u64, value: u64) {
-    let n = (number % 6) as usize;
-    counts[n] = wrapping_add_u64(counts[n], 1);
-    if number == 0 && transfer {
-        let v = 6 + (value % 5) as usize;
-        counts[v] = wrapping_add_u64(counts[v], 1);
+    count(counts, number_place(number));
+    if transfer && number == 0 {
+        count(counts, NUMBERS + 1 + value_place(value));
     }
 }
 
@@ -97,31 +108,28 @@ fn put_answer(out: &mut [u8], at: usize, number: u64, value: u64) -> usize {
     let mut next = text::put_decimal(out, at, number);
     next = text::put_byte(out, next, b' ');
     next = text::put_short_hex(out, next, value);
-    next = text::put_byte(out, next, b'\n');
-    make_room(out, next)
+    end_line(out, next)
 }
 
-// The run after an answer, which is counted and, if asked for, put on the page.
-fn answered(
-    counts: &mut [u64; COUNTS],
-    out: &mut [u8],
-    run: Run,
-    a: Answered,
-    transfer: bool,
-    answers: bool,
-) -> Run {
-    count_answer(counts, transfer, a.number, a.value);
+fn put_answer_if(out: &mut [u8], at: usize, asked: bool, number: u64, value: u64) -> usize {
+    if asked {
+        put_answer(out, at, number, value)
+    } else {
+        at
+    }
+}
+
+// The run after an answer, which ends at a place on the page.
+fn answered(run: Run, a: Answered, at: usize) -> Run {
     let mut next = run;
     let registers = a.registers;
     next.registers = registers;
+    next.at = at;
     next.rows = wrapping_add_u64(next.rows, 1);
-    if answers {
-        next.at = put_answer(out, next.at, a.number, a.value);
-    }
     next
 }
 
-// One event.
+// One event: its answer is counted and, if asked for, put on the page.
 fn run_event(
     ctrsource: &mut [u64; ENTRIES],
     ctrtarget: &mut [u64; ENTRIES],
@@ -130,37 +138,12 @@ fn run_event(
     out: &mut [u8],
     run: Run,
     e: Event,
-    answers: bool,
 ) -> Run {
     let r = run.registers;
     let a = step_in_place(ctrsource, ctrtarget, ctrdata, r, e);
-    answered(counts, out, run, a, is_transfer(e), answers)
-}
-
-// A row: its event is run, or the run stops.
-fn run_row(
-    ctrsource: &mut [u64; ENTRIES],
-    ctrtarget: &mut [u64; ENTRIES],
-    ctrdata: &mut [u64; ENTRIES],
-    counts: &mut [u64; COUNTS],
-    out: &mut [u8],
-    run: Run,
-    row: Row,
-    answers: bool,
-) -> Run {
-    match row {
-        Row::WellFormed(e) => run_event(
-            ctrsource,
-            ctrtarget,
-            ctrdata,
-            counts,
-            out,
-            run,
-            e,
-            answers,
-        ),
-        Row::Malformed(word) => stopped(run, word),
-    }
+    count_answer(counts, is_transfer(e), a.number, a.value);
+    let at = put_answer_if(out, run.at, run.answers, a.number, a.value);
+    answered(run, a, at)
 }
 
 fn stopped(run: Run, word: u64) -> Run {
@@ -169,33 +152,22 @@ fn stopped(run: Run, word: u64) -> Run {
     next
 }
 
-// Row i of the input, unless the run has stopped.
-fn run_row_at(
+// Row i of the input: its event is run, or the run stops.
+fn run_row(
     ctrsource: &mut [u64; ENTRIES],
     ctrtarget: &mut [u64; ENTRIES],
     ctrdata: &mut [u64; ENTRIES],
     counts: &mut [u64; COUNTS],
+    out: &mut [u8],
     input: &[u8],
     i: usize,
-    out: &mut [u8],
     run: Run,
-    answers: bool,
 ) -> Run
     requires { ⌜ 32 * i + 31 < length (now input) ⌝ }
 {
-    if run.word == WHOLE {
-        run_row(
-            ctrsource,
-            ctrtarget,
-            ctrdata,
-            counts,
-            out,
-            run,
-            row_at(input, i),
-            answers,
-        )
-    } else {
-        run
+    match row_at(input, i) {
+        Row::WellFormed(e) => run_event(ctrsource, ctrtarget, ctrdata, counts, out, run, e),
+        Row::Malformed(word) => stopped(run, word),
     }
 }
 
@@ -205,24 +177,16 @@ fn run_rows(
     ctrtarget: &mut [u64; ENTRIES],
     ctrdata: &mut [u64; ENTRIES],
     counts: &mut [u64; COUNTS],
-    input: &[u8],
     out: &mut [u8],
+    input: &[u8],
     run: Run,
-    answers: bool,
 ) -> Run {
+    let count = input.len() / 32;
     let mut next = run;
-    for i in 0..input.len() / 32 {
-        next = run_row_at(
-            ctrsource,
-            ctrtarget,
-            ctrdata,
-            counts,
-            input,
-            i,
-            out,
-            next,
-            answers,
-        );
+    let mut i = 0;
+    while i < count && next.word == WHOLE {
+        next = run_row(ctrsource, ctrtarget, ctrdata, counts, out, input, i, next);
+        i += 1;
     }
     next
 }
@@ -247,32 +211,12 @@ fn read_block(fd: i32, input: &mut [u8]) -> Block {
     }
 }
 
-// Reads a block and runs its rows.
-fn run_block(
-    ctrsource: &mut [u64; ENTRIES],
-    ctrtarget: &mut [u64; ENTRIES],
-    ctrdata: &mut [u64; ENTRIES],
-    counts: &mut [u64; COUNTS],
-    input: &mut [u8],
-    out: &mut [u8],
-    run: Run,
-    file: File,
-) -> Run {
-    let block = read_block(file.fd, input);
-    let count = block.count;
-    let mut next = run_rows(
-        ctrsource,
-        ctrtarget,
-        ctrdata,
-        counts,
-        text::before(input, count),
-        out,
-        run,
-        file.answers,
-    );
-    next.left = (count % 32) as u64;
+// The run after the rows of a block.
+fn after_block(run: Run, block: Block) -> Run {
+    let mut next = run;
+    next.left = (block.count % 32) as u64;
     next.failed = block.failed;
-    next.is_going = next.word == WHOLE && !block.failed && count == input.len();
+    next.is_going = run.word == WHOLE && !block.failed && block.count == BLOCK;
     next
 }
 
@@ -284,24 +228,25 @@ fn run_file(
     ctrdata: &mut [u64; ENTRIES],
     counts: &mut [u64; COUNTS],
     out: &mut [u8],
+    fd: i32,
     run: Run,
-    file: File,
 ) -> Run {
     let mut input = io::large_buffer();
     let mut next = run;
     let mut blocks = u64::MAX;
     while blocks > 0 && next.is_going {
-        next = run_block(
+        blocks -= 1;
+        let block = read_block(fd, &mut input);
+        next = run_rows(
             ctrsource,
             ctrtarget,
             ctrdata,
             counts,
-            &mut input,
             out,
+            text::before(&input, block.count),
             next,
-            file,
         );
-        blocks -= 1;
+        next = after_block(next, block);
     }
     next
 }
@@ -315,16 +260,42 @@ fn tell_problem(name: &[u8], run: Run) {
     }
 }
 
-fn put_name(out: &mut [u8], at: usize, name: &[u8]) -> usize {
-    let mut next = flush(out, at);
-    next = text::put(out, next, b"trace ");
-    next = text::put(out, next, name);
-    text::put_byte(out, next, b'\n')
+fn tell_failure(name: &[u8], failed: bool) {
+    if failed {
+        problems::unreadable(name);
+    }
 }
 
-fn started(at: usize, r: Registers) -> Run {
+// What a run left behind: counts, registers, the history and, if asked for, all entries.
+fn put_run(
+    out: &mut [u8],
+    run: Run,
+    counts: &[u64; COUNTS],
+    ctrsource: &[u64; ENTRIES],
+    ctrtarget: &[u64; ENTRIES],
+    ctrdata: &[u64; ENTRIES],
+    state: bool,
+) -> usize {
+    let r = run.registers;
+    let b = r.buffer;
+    let mut next = put_counts(out, run.at, counts, run.rows);
+    next = put_registers(out, next, r);
+    next = put_history(out, next, b, ctrsource, ctrtarget, ctrdata);
+    put_entries_if(out, next, ctrsource, ctrtarget, ctrdata, state)
+}
+
+// Writes the page, and tells what ended the run.
+fn finish(out: &mut [u8], at: usize, name: &[u8], run: Run) -> usize {
+    let next = flush(out, at);
+    tell_problem(name, run);
+    next
+}
+
+// A run from some registers, at a place on the page.
+fn started(at: usize, answers: bool, registers: Registers) -> Run {
     Run {
-        registers: r,
+        registers,
+        answers,
         at,
         rows: 0,
         word: WHOLE,
@@ -335,63 +306,54 @@ fn started(at: usize, r: Registers) -> Run {
 }
 
 // An open file from reset, and what it left behind.
-fn replay_file(out: &mut [u8], at: usize, name: &[u8], file: File, state: bool) -> usize {
+fn replay_file(out: &mut [u8], at: usize, name: &[u8], fd: i32, o: Options) -> usize {
     let s = reset();
     let mut ctrsource = s.ctrsource;
     let mut ctrtarget = s.ctrtarget;
     let mut ctrdata = s.ctrdata;
-    let r = s.registers;
-    let mut counts = [0u64; COUNTS];
+    let registers = s.registers;
+    let mut counts = [0; COUNTS];
     let run = run_file(
         &mut ctrsource,
         &mut ctrtarget,
         &mut ctrdata,
         &mut counts,
         out,
-        started(at, r),
-        file,
+        fd,
+        started(at, o.answers, registers),
     );
-    if run.failed {
-        problems::unreadable(name);
-    }
-    let q = run.registers;
-    let mut next = put_counts(out, run.at, &counts, run.rows);
-    next = put_state(out, next, q, &ctrsource, &ctrtarget, &ctrdata, state);
-    next = flush(out, next);
-    tell_problem(name, run);
-    next
+    tell_failure(name, run.failed);
+    let mut next = put_run(out, run, &counts, &ctrsource, &ctrtarget, &ctrdata, o.state);
+    finish(out, next, name, run)
+}
+
+fn put_name(out: &mut [u8], at: usize, name: &[u8]) -> usize {
+    let mut next = flush(out, at);
+    next = text::put(out, next, b"trace ");
+    next = text::put(out, next, name);
+    text::put_byte(out, next, b'\n')
 }
 
 // The name of a trace, where there are several.
-fn put_name_if(out: &mut [u8], at: usize, name: &[u8], is_one_of_several: bool) -> usize {
-    if is_one_of_several {
-        put_name(out, at, name)
-    } else {
-        at
-    }
+fn put_name_if(out: &mut [u8], at: usize, name: &[u8], several: bool) -> usize {
+    if several { put_name(out, at, name) } else { at }
 }
 
 // A file that is open is replayed and closed.
-fn replay_open(out: &mut [u8], at: usize, name: &[u8], file: File, state: bool) -> usize {
-    let next = replay_file(out, at, name, file, state);
-    libc::close(file.fd);
+fn replay_open(out: &mut [u8], at: usize, name: &[u8], fd: i32, o: Options) -> usize {
+    let mut next = put_name_if(out, at, name, o.several);
+    next = replay_file(out, next, name, fd, o);
+    libc::close(fd);
     next
 }
 
 // A trace by its file's name.
-pub(crate) fn replay(
-    out: &mut [u8],
-    at: usize,
-    name: &[u8],
-    is_one_of_several: bool,
-    answers: bool,
-    state: bool,
-) -> usize {
+pub(crate) fn replay(out: &mut [u8], at: usize, name: &[u8], o: Options) -> usize {
     let fd = os::open_read(name);
     if fd < 0 {
         problems::unreadable(name);
-        return at;
+        at
+    } else {
+        replay_open(out, at, name, fd, o)
     }
-    let next = put_name_if(out, at, name, is_one_of_several);
-    replay_open(out, next, name, File { fd, answers }, state)
 }

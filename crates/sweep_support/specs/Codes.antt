@@ -5,8 +5,8 @@ use lib.Dec.{eqb}
 use Rattle.bits.specs.Choice.{if_then_else_}
 use Rattle.machine.specs.declared.Mode.{Mode}
 use Rattle.machine.specs.declared.Mode.the-variants.{U, S, M, VU, VS}
-use Rattle.access.specs.declared.Operation.{Operation}
-use Rattle.access.specs.declared.Operation.the-variants.{Read, Write, Set, Clear}
+use Rattle.machine.specs.declared.Operation.{Operation}
+use Rattle.machine.specs.declared.Operation.the-variants.{Read, Write, Set, Clear}
 
 abbrev pub flagOf : Bool → ℕ
 flagOf true = 1

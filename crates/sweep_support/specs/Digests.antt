@@ -1,7 +1,11 @@
 -- Digests with answers, registers and entries taken in, field by field in their order.
 use Prim.Native.Nat.{ℕ}
+use Rattle.machine.specs.declared.Buffer.{Buffer}
+use Rattle.machine.specs.declared.ControlWords.{ControlWords}
+use Rattle.machine.specs.declared.Enables.{Enables}
 use Rattle.machine.specs.declared.Entry.{Entry}
 use Rattle.machine.specs.declared.Registers.{Registers}
+use Rattle.machine.specs.declared.Selects.{Selects}
 use Rattle.test_support.specs.Words.{digested}
 use Rattle.sweep_support.specs.Codes.{flagOf, modeCode}
 
@@ -12,18 +16,21 @@ withAnswer h number value = digested (digested h number) value
 unfoldable pub withEntry : ℕ → Entry → ℕ
 withEntry h e = digested (digested (digested h (e .ctrsource)) (e .ctrtarget)) (e .ctrdata)
 
--- the mode and the control registers
-abbrev pub withControls : ℕ → Registers → ℕ
-withControls h r = digested (digested (digested h (modeCode (r .mode))) (r .mctrctl)) (r .vsctrctl)
+-- the groups of registers
+unfoldable pub withControls : ℕ → ControlWords → ℕ
+withControls h c = digested (digested h (c .mctrctl)) (c .vsctrctl)
 
--- depth code and status
-abbrev pub withStatus : ℕ → Registers → ℕ
-withStatus h r = digested (digested (digested h (r .sctrdepth)) (r .wrptr)) (flagOf (r .frozen))
+unfoldable pub withBuffer : ℕ → Buffer → ℕ
+withBuffer h b = digested (digested (digested h (b .code)) (b .wrptr)) (flagOf (b .frozen))
 
--- selections and state enables
-abbrev pub withSelections : ℕ → Registers → ℕ
-withSelections h r =
-    digested (digested (digested (digested h (r .siselect)) (r .vsiselect)) (flagOf (r .mstateen0))) (flagOf (r .hstateen0))
+unfoldable pub withSelects : ℕ → Selects → ℕ
+withSelects h s = digested (digested h (s .siselect)) (s .vsiselect)
 
+unfoldable pub withEnables : ℕ → Enables → ℕ
+withEnables h e = digested (digested h (flagOf (e .mstateen0))) (flagOf (e .hstateen0))
+
+-- the mode, then each group
 unfoldable pub withRegisters : ℕ → Registers → ℕ
-withRegisters h r = withSelections (withStatus (withControls h r) r) r
+withRegisters h r =
+    withEnables (withSelects (withBuffer (withControls (digested h (modeCode (r .mode))) (r .controls)) (r .buffer)) (r .selects))
+    (r .enables)

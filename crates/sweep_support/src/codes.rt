@@ -1,8 +1,8 @@
 // Numbers for modes, operations and bits.
 ghost use mathlib.Core.Path.{_≡_};
 ghost use Rattle.sweep_support.specs.Codes.{flagOf, modeCode, modeOf, operationOf};
-use access::Operation;
 use machine::Mode;
+use machine::Operation;
 
 // 1 for true.
 pub fn flag(b: bool) -> u64

@@ -1,10 +1,14 @@
 // The digest h with an answer, an entry or registers taken in.
 ghost use mathlib.Core.Path.{_≡_};
-ghost use Rattle.sweep_support.specs.Digests.{withAnswer, withEntry, withRegisters};
+ghost use Rattle.sweep_support.specs.Digests.{withAnswer, withEntry, withControls, withBuffer, withSelects, withEnables, withRegisters};
 use crate::codes::flag;
 use crate::codes::mode_code;
+use machine::Buffer;
+use machine::ControlWords;
+use machine::Enables;
 use machine::Entry;
 use machine::Registers;
+use machine::Selects;
 use test_support::digest;
 
 pub fn digest_answer(h: u64, number: u64, value: u64) -> u64
@@ -19,18 +23,41 @@ pub fn digest_entry(h: u64, e: Entry) -> u64
     digest(digest(digest(h, e.ctrsource), e.ctrtarget), e.ctrdata)
 }
 
+fn digest_controls(h: u64, c: ControlWords) -> u64
+    ensures { λ d. ⌜ d ≡ withControls h c ⌝ }
+{
+    digest(digest(h, c.mctrctl), c.vsctrctl)
+}
+
+fn digest_buffer(h: u64, b: Buffer) -> u64
+    ensures { λ d. ⌜ d ≡ withBuffer h b ⌝ }
+{
+    digest(digest(digest(h, b.code), b.wrptr), flag(b.frozen))
+}
+
+fn digest_selects(h: u64, s: Selects) -> u64
+    ensures { λ d. ⌜ d ≡ withSelects h s ⌝ }
+{
+    digest(digest(h, s.siselect), s.vsiselect)
+}
+
+fn digest_enables(h: u64, e: Enables) -> u64
+    ensures { λ d. ⌜ d ≡ withEnables h e ⌝ }
+{
+    digest(digest(h, flag(e.mstateen0)), flag(e.hstateen0))
+}
+
 pub fn digest_registers(h: u64, r: Registers) -> u64
     ensures { λ d. ⌜ d ≡ withRegisters h r ⌝ }
 {
     let m = r.mode;
+    let c = r.controls;
+    let b = r.buffer;
+    let s = r.selects;
+    let e = r.enables;
     let mut d = digest(h, mode_code(m));
-    d = digest(d, r.mctrctl);
-    d = digest(d, r.vsctrctl);
-    d = digest(d, r.sctrdepth);
-    d = digest(d, r.wrptr);
-    d = digest(d, flag(r.frozen));
-    d = digest(d, r.siselect);
-    d = digest(d, r.vsiselect);
-    d = digest(d, flag(r.mstateen0));
-    digest(d, flag(r.hstateen0))
+    d = digest_controls(d, c);
+    d = digest_buffer(d, b);
+    d = digest_selects(d, s);
+    digest_enables(d, e)
 }

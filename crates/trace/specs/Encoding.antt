@@ -4,10 +4,10 @@ use mathlib.Core.Path.{_≡_}
 use mathlib.Core.Bool.{Bool, true, false}
 use Rattle.machine.specs.declared.Mode.{Mode}
 use Rattle.machine.specs.declared.Mode.the-variants.{U, S, M, VU, VS}
-use Rattle.access.specs.declared.Operation.{Operation}
-use Rattle.access.specs.declared.Operation.the-variants.{Read, Write, Set, Clear}
-use Rattle.recorder.specs.declared.Event.{Event}
-use Rattle.recorder.specs.declared.Event.the-variants.{Retired, Trap, TrapReturn, Access, Sctrclr, Host}
+use Rattle.machine.specs.declared.Operation.{Operation}
+use Rattle.machine.specs.declared.Operation.the-variants.{Read, Write, Set, Clear}
+use Rattle.machine.specs.declared.Event.{Event}
+use Rattle.machine.specs.declared.Event.the-variants.{Retired, Trap, TrapReturn, Access, Sctrclr, Host}
 use Rattle.trace.specs.Rows.{rowOf}
 use Rattle.trace.specs.declared.Row.the-variants.{WellFormed}
 
@@ -36,24 +36,23 @@ pub record Words : Type 0 where
 
 -- the words of an event: the kind and what stands above it in word 0, and the event's numbers
 abbrev pub wordsOf : Event → Words
-wordsOf (Retired word pc target taken) = record { zero = 0 + 2 ^ 8 * flagOf taken; one = word; two = pc; three = target }
-wordsOf (Trap to interrupt cause epc handler) =
-    record { zero = 1 + 2 ^ 8 * modeCode to + 2 ^ 11 * flagOf interrupt; one = cause; two = epc; three = handler }
-wordsOf (TrapReturn to pc target) = record { zero = 2 + 2 ^ 8 * modeCode to; one = 0; two = pc; three = target }
-wordsOf (Access operation number operand) =
-    record { zero = 3 + 2 ^ 8 * operationCode operation; one = number; two = operand; three = 0 }
+wordsOf (Retired w) = record { zero = 0 + 2 ^ 8 * flagOf (w .taken); one = w .word; two = w .pc; three = w .target }
+wordsOf (Trap x) =
+    record { zero = 1 + 2 ^ 8 * modeCode (x .mode) + 2 ^ 11 * flagOf (x .interrupt); one = x .cause; two = x .epc; three = x .handler }
+wordsOf (TrapReturn x) = record { zero = 2 + 2 ^ 8 * modeCode (x .mode); one = 0; two = x .pc; three = x .target }
+wordsOf (Access a) = record { zero = 3 + 2 ^ 8 * operationCode (a .operation); one = a .number; two = a .operand; three = 0 }
 wordsOf Sctrclr = record { zero = 4; one = 0; two = 0; three = 0 }
-wordsOf (Host mstateen0 hstateen0) =
-    record { zero = 5 + 2 ^ 8 * flagOf mstateen0 + 2 ^ 9 * flagOf hstateen0; one = 0; two = 0; three = 0 }
+wordsOf (Host e) =
+    record { zero = 5 + 2 ^ 8 * flagOf (e .mstateen0) + 2 ^ 9 * flagOf (e .hstateen0); one = 0; two = 0; three = 0 }
 
 -- a row holds instructions below 2^32 and CSR numbers below 4096
 abbrev pub Fits : Event → Type 0
-Fits (Retired word pc target taken) = word < 2 ^ 32
-Fits (Access operation number operand) = number < 4096
-Fits (Trap to interrupt cause epc handler) = Unit {0}
-Fits (TrapReturn to pc target) = Unit {0}
+Fits (Retired w) = w .word < 2 ^ 32
+Fits (Access a) = a .number < 4096
+Fits (Trap x) = Unit {0}
+Fits (TrapReturn x) = Unit {0}
 Fits Sctrclr = Unit {0}
-Fits (Host mstateen0 hstateen0) = Unit {0}
+Fits (Host e) = Unit {0}
 
 abbrev pub EveryEvent : Type 0
 EveryEvent =

@@ -7,10 +7,10 @@ use Rattle.bits.specs.Choice.{if_then_else_}
 use Rattle.bits.specs.Words.{bitAt, fieldAt}
 use Rattle.machine.specs.declared.Mode.{Mode}
 use Rattle.machine.specs.declared.Mode.the-variants.{U, S, M, VU, VS}
-use Rattle.access.specs.declared.Operation.{Operation}
-use Rattle.access.specs.declared.Operation.the-variants.{Read, Write, Set, Clear}
-use Rattle.recorder.specs.declared.Event.{Event}
-use Rattle.recorder.specs.declared.Event.the-variants.{Retired, Trap, TrapReturn, Access, Sctrclr, Host}
+use Rattle.machine.specs.declared.Operation.{Operation}
+use Rattle.machine.specs.declared.Operation.the-variants.{Read, Write, Set, Clear}
+use Rattle.machine.specs.declared.Event.{Event}
+use Rattle.machine.specs.declared.Event.the-variants.{Retired, Trap, TrapReturn, Access, Sctrclr, Host}
 use Rattle.trace.specs.declared.Row.{Row}
 use Rattle.trace.specs.declared.Row.the-variants.{WellFormed, Malformed}
 
@@ -31,32 +31,46 @@ unfoldable pub operationOf : ℕ → Operation
 operationOf code = if eqb code 0 then Read else (if eqb code 1 then Write else (if eqb code 2 then Set else Clear))
 
 -- kind 0, a retired word: taken in bit 8; instruction below 2^32, pc, target
+abbrev pub retiredEvent : ℕ → ℕ → ℕ → Bool → Event
+retiredEvent word pc target taken = Retired (record { word = word; pc = pc; target = target; taken = taken })
+
 unfoldable pub retiredRow : ℕ → ℕ → ℕ → ℕ → Row
 retiredRow w word pc target =
     if ltb w (2 ^ 9)
-    then (if ltb word (2 ^ 32) then WellFormed (Retired word pc target (eqb (bitAt w 8) 1)) else Malformed 1)
+    then (if ltb word (2 ^ 32) then WellFormed (retiredEvent word pc target (eqb (bitAt w 8) 1)) else Malformed 1)
     else Malformed 0
 
 -- kind 1, a trap: target mode in bits 10..8, interrupt in bit 11; cause, epc, handler
+abbrev pub trapEvent : ℕ → ℕ → ℕ → ℕ → Event
+trapEvent w cause epc handler =
+    Trap (record { mode = modeOf (fieldAt w 8 3); interrupt = eqb (bitAt w 11) 1; cause = cause; epc = epc; handler = handler })
+
 unfoldable pub trapRow : ℕ → ℕ → ℕ → ℕ → Row
 trapRow w cause epc handler =
     if withMode w (2 ^ 12)
-    then WellFormed (Trap (modeOf (fieldAt w 8 3)) (eqb (bitAt w 11) 1) cause epc handler)
+    then WellFormed (trapEvent w cause epc handler)
     else Malformed 0
 
 -- kind 2, a trap return: target mode in bits 10..8; 0, pc, target
+abbrev pub returnEvent : ℕ → ℕ → ℕ → Event
+returnEvent w pc target = TrapReturn (record { mode = modeOf (fieldAt w 8 3); pc = pc; target = target })
+
 unfoldable pub returnRow : ℕ → ℕ → ℕ → ℕ → Row
 returnRow w zero pc target =
     if withMode w (2 ^ 11)
-    then (if eqb zero 0 then WellFormed (TrapReturn (modeOf (fieldAt w 8 3)) pc target) else Malformed 1)
+    then (if eqb zero 0 then WellFormed (returnEvent w pc target) else Malformed 1)
     else Malformed 0
 
 -- kind 3, a register access: operation in bits 9..8; CSR number below 4096, operand, 0
+abbrev pub accessEvent : ℕ → ℕ → ℕ → Event
+accessEvent w number operand =
+    Access (record { operation = operationOf (fieldAt w 8 2); number = number; operand = operand })
+
 unfoldable pub accessRow : ℕ → ℕ → ℕ → ℕ → Row
 accessRow w number operand zero =
     if ltb w (2 ^ 10)
     then (if ltb number 4096
-    then (if eqb zero 0 then WellFormed (Access (operationOf (fieldAt w 8 2)) number operand) else Malformed 3)
+    then (if eqb zero 0 then WellFormed (accessEvent w number operand) else Malformed 3)
     else Malformed 1)
     else Malformed 0
 
@@ -72,9 +86,11 @@ unfoldable pub sctrclrRow : ℕ → ℕ → ℕ → ℕ → Row
 sctrclrRow w a b c = if ltb w (2 ^ 8) then zerosRow a b c Sctrclr else Malformed 0
 
 -- kind 5, the host's event: mstateen0.CTR in bit 8, hstateen0.CTR in bit 9
+abbrev pub hostEvent : ℕ → Event
+hostEvent w = Host (record { mstateen0 = eqb (bitAt w 8) 1; hstateen0 = eqb (bitAt w 9) 1 })
+
 unfoldable pub hostRow : ℕ → ℕ → ℕ → ℕ → Row
-hostRow w a b c =
-    if ltb w (2 ^ 10) then zerosRow a b c (Host (eqb (bitAt w 8) 1) (eqb (bitAt w 9) 1)) else Malformed 0
+hostRow w a b c = if ltb w (2 ^ 10) then zerosRow a b c (hostEvent w) else Malformed 0
 
 -- a row by its kind; there are no others
 unfoldable pub rowBy : ℕ → ℕ → ℕ → ℕ → ℕ → Row

@@ -5,11 +5,16 @@ ghost use Prim.Native.Nat.{_^_};
 ghost use lib.Dec.{eqb, ltb};
 ghost use Rattle.bits.specs.Choice.{if_then_else_};
 ghost use Rattle.bits.specs.Words.{bitAt, fieldAt};
-ghost use Rattle.trace.specs.Rows.{modeOf, operationOf, withMode, retiredRow, trapRow, returnRow, accessRow, zerosRow, sctrclrRow, hostRow, rowBy, rowOf};
+ghost use Rattle.trace.specs.Rows.{modeOf, operationOf, withMode, retiredEvent, trapEvent, returnEvent, accessEvent, hostEvent, retiredRow, trapRow, returnRow, accessRow, zerosRow, sctrclrRow, hostRow, rowBy, rowOf};
 use crate::Row;
-use access::Operation;
+use machine::CsrAccess;
+use machine::Enables;
+use machine::Event;
 use machine::Mode;
-use recorder::Event;
+use machine::Operation;
+use machine::RetiredWord;
+use machine::ReturnTo;
+use machine::TrapTo;
 
 fn below(x: u64, limit: u64) -> bool
     ensures { λ b. ⌜ b ≡ ltb x limit ⌝ }
@@ -79,23 +84,23 @@ fn operation_in(w: u64) -> Operation
 
 // A retired word; taken in bit 8 of word 0.
 fn retired_word(taken: bool, word: u64, pc: u64, target: u64) -> Row
-    ensures { λ r. ⌜ r ≡ (if ltb word (2 ^ 32) then Row.WellFormed (Event.Retired word pc target taken) else Row.Malformed 1) ⌝ }
+    ensures { λ r. ⌜ r ≡ (if ltb word (2 ^ 32) then Row.WellFormed (retiredEvent word pc target taken) else Row.Malformed 1) ⌝ }
 {
     if word < 0x1_0000_0000 {
-        let e = Event::Retired {
+        let e = RetiredWord {
             word: word as u32,
             pc,
             target,
             taken,
         };
-        Row::WellFormed(e)
+        Row::WellFormed(Event::Retired(e))
     } else {
         Row::Malformed(1)
     }
 }
 
 fn retired_taken(w: u64, word: u64, pc: u64, target: u64) -> Row
-    ensures { λ r. ⌜ r ≡ (if ltb word (2 ^ 32) then Row.WellFormed (Event.Retired word pc target (eqb (bitAt w 8) 1)) else Row.Malformed 1) ⌝ }
+    ensures { λ r. ⌜ r ≡ (if ltb word (2 ^ 32) then Row.WellFormed (retiredEvent word pc target (eqb (bitAt w 8) 1)) else Row.Malformed 1) ⌝ }
 {
     retired_word(bits::bit(w, 8), word, pc, target)
 }
@@ -112,16 +117,16 @@ fn retired_row(w: u64, word: u64, pc: u64, target: u64) -> Row
 
 // A trap; target mode in bits 10..8 and interrupt in bit 11.
 fn trap_event(w: u64, cause: u64, epc: u64, handler: u64) -> Row
-    ensures { λ r. ⌜ r ≡ Row.WellFormed (Event.Trap (modeOf (fieldAt w 8 3)) (eqb (bitAt w 11) 1) cause epc handler) ⌝ }
+    ensures { λ r. ⌜ r ≡ Row.WellFormed (trapEvent w cause epc handler) ⌝ }
 {
-    let e = Event::Trap {
-        to: mode_in(w),
+    let e = TrapTo {
+        mode: mode_in(w),
         interrupt: bits::bit(w, 11),
         cause,
         epc,
         handler,
     };
-    Row::WellFormed(e)
+    Row::WellFormed(Event::Trap(e))
 }
 
 fn trap_row(w: u64, cause: u64, epc: u64, handler: u64) -> Row
@@ -136,14 +141,14 @@ fn trap_row(w: u64, cause: u64, epc: u64, handler: u64) -> Row
 
 // A trap return; target mode in bits 10..8.
 fn return_event(w: u64, pc: u64, target: u64) -> Row
-    ensures { λ r. ⌜ r ≡ Row.WellFormed (Event.TrapReturn (modeOf (fieldAt w 8 3)) pc target) ⌝ }
+    ensures { λ r. ⌜ r ≡ Row.WellFormed (returnEvent w pc target) ⌝ }
 {
-    let e = Event::TrapReturn {
-        to: mode_in(w),
+    let e = ReturnTo {
+        mode: mode_in(w),
         pc,
         target,
     };
-    Row::WellFormed(e)
+    Row::WellFormed(Event::TrapReturn(e))
 }
 
 fn return_row(w: u64, zero: u64, pc: u64, target: u64) -> Row
@@ -162,14 +167,14 @@ fn return_row(w: u64, zero: u64, pc: u64, target: u64) -> Row
 
 // A register access; operation in bits 9..8.
 fn access_event(w: u64, number: u64, operand: u64) -> Row
-    ensures { λ r. ⌜ r ≡ Row.WellFormed (Event.Access (operationOf (fieldAt w 8 2)) number operand) ⌝ }
+    ensures { λ r. ⌜ r ≡ Row.WellFormed (accessEvent w number operand) ⌝ }
 {
-    let e = Event::Access {
+    let e = CsrAccess {
         operation: operation_in(w),
         number,
         operand,
     };
-    Row::WellFormed(e)
+    Row::WellFormed(Event::Access(e))
 }
 
 fn access_row(w: u64, number: u64, operand: u64, zero: u64) -> Row
@@ -227,13 +232,13 @@ fn sctrclr_row(w: u64, a: u64, b: u64, c: u64) -> Row
 
 // The host's event; mstateen0.CTR in bit 8 and hstateen0.CTR in bit 9.
 fn host_event(w: u64, a: u64, b: u64, c: u64) -> Row
-    ensures { λ r. ⌜ r ≡ zerosRow a b c (Event.Host (eqb (bitAt w 8) 1) (eqb (bitAt w 9) 1)) ⌝ }
+    ensures { λ r. ⌜ r ≡ zerosRow a b c (hostEvent w) ⌝ }
 {
-    let e = Event::Host {
+    let e = Enables {
         mstateen0: bits::bit(w, 8),
         hstateen0: bits::bit(w, 9),
     };
-    zeros_row(a, b, c, e)
+    zeros_row(a, b, c, Event::Host(e))
 }
 
 fn host_row(w: u64, a: u64, b: u64, c: u64) -> Row

@@ -1,5 +1,4 @@
--- What `Hidden`, `TrapOutcomes` and `StaysGood` state. Assumes nothing.
-use mathlib.Core.Path.{refl}
+-- What `Hidden` and `StaysGood` state. Assumes nothing.
 use mathlib.Core.Bool.{Bool, true, false}
 use Prim.Native.Nat.{_+_, _%_}
 use native.Mathlib.Nat.{mod-lt}
@@ -15,31 +14,25 @@ use Rattle.machine.specs.declared.Mode.{Mode}
 use Rattle.machine.specs.declared.Registers.{Registers}
 use Rattle.machine.specs.declared.Entry.{Entry}
 use Rattle.machine.specs.declared.Decision.{Decision}
-use Rattle.transfers.specs.Changes.{possibleTrap, possibleReturn}
+use Rattle.machine.specs.declared.Verdict.the-variants.{ChangeNotPossible}
+use Rattle.qualifying.specs.Changes.{possibleTrap, possibleReturn}
 use Rattle.transfers.specs.Records.{entryFor, sidePc, advanced, retreated}
-use Rattle.transfers.specs.Outcomes.{retiredOutcome, trapBy, trapOutcome, trapType, returnOutcome}
+use Rattle.qualifying.specs.Filters.{freezesOf}
+use Rattle.qualifying.specs.Outcomes.{retiredOutcome, trapOutcome, trapType, returnOutcome, returnType}
 use Rattle.transfers.specs.Transfers.{doneOf, retiredOf, inMode, crossing, takenTrap, trapOf, takenReturn, returnOf}
-use Rattle.transfers.specs.Laws.{Hidden, TrapOutcomes, StaysGood}
-use Rattle.transfers.specs.declared.Outcome.{Outcome}
-use Rattle.transfers.specs.declared.Outcome.the-variants.{Nothing, Record, Pop, Swap, Freeze}
+use Rattle.transfers.specs.Laws.{Hidden, StaysGood}
+use Rattle.machine.specs.declared.Outcome.{Outcome}
+use Rattle.machine.specs.declared.Outcome.the-variants.{Nothing, Record, Pop, Swap, Freeze}
 
 pub hidden : (r : Registers) (old : Entry) → Hidden r old
-unfolding retiredOf retiredOutcome doneOf trapOf takenTrap returnOf takenReturn crossing sidePc
+unfolding retiredOf retiredOutcome doneOf trapOf takenTrap trapOutcome freezesOf returnOf takenReturn crossing sidePc
 hidden r old =
     record {
-      retired = (λ t taken pc target h. rw h);
-      trap-source = (λ target interrupt cause epc epc′ handler h. rw h);
-      trap-target = (λ target interrupt cause epc handler handler′ h. rw h);
-      return-source = (λ target pc pc′ target-pc h. rw h);
-      return-target = (λ target pc target-pc target-pc′ h. rw h);
-    }
-
-pub trap-outcomes : TrapOutcomes
-unfolding trapBy
-trap-outcomes =
-    record {
-      freezes = (λ frozen rasemu source target inhibited external. refl);
-      external = (λ freezes frozen rasemu source external inhibited inhibited′. refl);
+      retired = (λ t w h. rw h);
+      trap-source = (λ t epc h. rw h);
+      trap-target = (λ t handler h. rw h);
+      return-source = (λ t pc h. rw h);
+      return-target = (λ t target h. rw h);
     }
 
 -- an outcome done keeps the registers free of number 5
@@ -49,12 +42,12 @@ good-done r old e Nothing q = q
 good-done r old e Record q =
     record {
       code = q .code;
-      pointer = lt-ltb _ _ (mod-lt (r .wrptr % depthOf (r .sctrdepth) + 1) (depth-pos (r .sctrdepth)));
+      pointer = lt-ltb _ _ (mod-lt (r .buffer .wrptr % depthOf (r .buffer .code) + 1) (depth-pos (r .buffer .code)));
       control = q .control;
       guest = q .guest;
     }
 good-done r old e Pop q =
-    record { code = q .code; pointer = lt-ltb _ _ (places .in-use (r .sctrdepth) (r .wrptr) 0); control = q .control; guest = q .guest }
+    record { code = q .code; pointer = lt-ltb _ _ (places .in-use (r .buffer .code) (r .buffer .wrptr) 0); control = q .control; guest = q .guest }
 good-done r old e Swap q = q
 good-done r old e Freeze q = record { code = q .code; pointer = q .pointer; control = q .control; guest = q .guest }
 
@@ -62,7 +55,7 @@ good-in-mode : (d : Decision) (m : Mode) → Good (d .registers) → Good (inMod
 good-in-mode d m q = record { code = q .code; pointer = q .pointer; control = q .control; guest = q .guest }
 
 -- a possible change of mode, or a refusal
-good-change : (b : Bool) (r : Registers) (d : Decision) → Good r → Good (d .registers) → Good ((if b then d else refused r 4) .registers)
+good-change : (b : Bool) (r : Registers) (d : Decision) → Good r → Good (d .registers) → Good ((if b then d else refused r ChangeNotPossible) .registers)
 good-change true r d q p = p
 good-change false r d q p = q
 
@@ -70,19 +63,18 @@ pub stays-good : (r : Registers) (old : Entry) → StaysGood r old
 unfolding retiredOf trapOf takenTrap returnOf takenReturn
 stays-good r old =
     record {
-      retired = (λ t taken pc target h. whole _ (good-done r old (entryFor pc target (typeOf t taken)) (retiredOutcome r t taken) (parts r h)));
-      trap = (λ target interrupt cause epc handler h.
+      retired = (λ t w h.
+          whole _ (good-done r old (entryFor (w .pc) (w .target) (typeOf t (w .taken))) (retiredOutcome r t (w .taken)) (parts r h)));
+      trap = (λ t h.
           let q = parts r h in
-          let e = crossing r target epc handler (trapType interrupt) in
-          let o = trapOutcome r target interrupt cause in
+          let e = crossing r (t .mode) (t .epc) (t .handler) (trapType (t .interrupt)) in
+          let o = trapOutcome r t in
           whole _
-          (good-change (possibleTrap (r .mode) target) r (takenTrap r old target interrupt cause epc handler) q
-          (good-in-mode (doneOf r old e o) target (good-done r old e o q))));
-      trap-return = (λ target pc target-pc h.
+          (good-change (possibleTrap (r .mode) (t .mode)) r (takenTrap r old t) q (good-in-mode (doneOf r old e o) (t .mode) (good-done r old e o q))));
+      trap-return = (λ t h.
           let q = parts r h in
-          let e = crossing r target pc target-pc 3 in
-          let o = returnOutcome r target in
+          let e = crossing r (t .mode) (t .pc) (t .target) returnType in
+          let o = returnOutcome r (t .mode) in
           whole _
-          (good-change (possibleReturn (r .mode) target) r (takenReturn r old target pc target-pc) q
-          (good-in-mode (doneOf r old e o) target (good-done r old e o q))));
+          (good-change (possibleReturn (r .mode) (t .mode)) r (takenReturn r old t) q (good-in-mode (doneOf r old e o) (t .mode) (good-done r old e o q))));
     }

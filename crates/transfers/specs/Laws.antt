@@ -6,40 +6,32 @@ use Rattle.classifier.specs.declared.Transfer.{Transfer}
 use Rattle.machine.specs.Answers.{answered}
 use Rattle.machine.specs.Modes.{onOf}
 use Rattle.machine.specs.Regs.{goodOf}
-use Rattle.machine.specs.declared.Mode.{Mode}
 use Rattle.machine.specs.declared.Registers.{Registers}
 use Rattle.machine.specs.declared.Entry.{Entry}
-use Rattle.transfers.specs.Outcomes.{trapBy}
+use Rattle.machine.specs.declared.RetiredWord.{RetiredWord}
+use Rattle.machine.specs.declared.TrapTo.{TrapTo}
+use Rattle.machine.specs.declared.ReturnTo.{ReturnTo}
 use Rattle.transfers.specs.Transfers.{retiredOf, trapOf, returnOf}
-use Rattle.transfers.specs.declared.Outcome.the-variants.{Freeze}
+
+-- a trap or return with other addresses
+abbrev pub withPcs : TrapTo → ℕ → ℕ → TrapTo
+withPcs t epc handler = record { mode = t .mode; interrupt = t .interrupt; cause = t .cause; epc = epc; handler = handler }
+
+abbrev pub withReturnPcs : ReturnTo → ℕ → ℕ → ReturnTo
+withReturnPcs t pc target = record { mode = t .mode; pc = pc; target = target }
 
 -- no address of a side that is off reaches a decision, and a word retired in a mode that is off decides nothing
 pub record Hidden (r : Registers) (old : Entry) : Type 0 where
-  pub retired : (t : Transfer) (taken : Bool) (pc target : ℕ)
-      → onOf r (r .mode) ≡ false → retiredOf r old t taken pc target ≡ answered r 0
-  pub trap-source : (target : Mode) (interrupt : Bool) (cause epc epc′ handler : ℕ)
-      → onOf r (r .mode) ≡ false → trapOf r old target interrupt cause epc handler ≡ trapOf r old target interrupt cause epc′ handler
-  pub trap-target : (target : Mode) (interrupt : Bool) (cause epc handler handler′ : ℕ)
-      → onOf r target ≡ false → trapOf r old target interrupt cause epc handler ≡ trapOf r old target interrupt cause epc handler′
-  pub return-source : (target : Mode) (pc pc′ target-pc : ℕ)
-      → onOf r (r .mode) ≡ false → returnOf r old target pc target-pc ≡ returnOf r old target pc′ target-pc
-  pub return-target : (target : Mode) (pc target-pc target-pc′ : ℕ)
-      → onOf r target ≡ false → returnOf r old target pc target-pc ≡ returnOf r old target pc target-pc′
-
--- what the outcome of a trap does not depend on
-pub record TrapOutcomes : Type 0 where
-  -- a freezing trap freezes, whatever is frozen, on, inhibited or let through
-  pub freezes : (frozen rasemu source target inhibited external : Bool)
-      → trapBy true frozen rasemu source target inhibited external ≡ Freeze
-  -- of a trap into a mode that is off the inhibits are not asked
-  pub external : (freezes frozen rasemu source external inhibited inhibited′ : Bool)
-      → trapBy freezes frozen rasemu source false inhibited external ≡ trapBy freezes frozen rasemu source false inhibited′ external
+  pub retired : (t : Transfer) (w : RetiredWord) → onOf r (r .mode) ≡ false → retiredOf r old t w ≡ answered r 0
+  pub trap-source : (t : TrapTo) (epc : ℕ) → onOf r (r .mode) ≡ false → trapOf r old t ≡ trapOf r old (withPcs t epc (t .handler))
+  pub trap-target : (t : TrapTo) (handler : ℕ) → onOf r (t .mode) ≡ false → trapOf r old t ≡ trapOf r old (withPcs t (t .epc) handler)
+  pub return-source : (t : ReturnTo) (pc : ℕ)
+      → onOf r (r .mode) ≡ false → returnOf r old t ≡ returnOf r old (withReturnPcs t pc (t .target))
+  pub return-target : (t : ReturnTo) (target : ℕ)
+      → onOf r (t .mode) ≡ false → returnOf r old t ≡ returnOf r old (withReturnPcs t (t .pc) target)
 
 -- registers free of number 5 stay so
 pub record StaysGood (r : Registers) (old : Entry) : Type 0 where
-  pub retired : (t : Transfer) (taken : Bool) (pc target : ℕ)
-      → goodOf r ≡ true → goodOf (retiredOf r old t taken pc target .registers) ≡ true
-  pub trap : (target : Mode) (interrupt : Bool) (cause epc handler : ℕ)
-      → goodOf r ≡ true → goodOf (trapOf r old target interrupt cause epc handler .registers) ≡ true
-  pub trap-return : (target : Mode) (pc target-pc : ℕ)
-      → goodOf r ≡ true → goodOf (returnOf r old target pc target-pc .registers) ≡ true
+  pub retired : (t : Transfer) (w : RetiredWord) → goodOf r ≡ true → goodOf (retiredOf r old t w .registers) ≡ true
+  pub trap : (t : TrapTo) → goodOf r ≡ true → goodOf (trapOf r old t .registers) ≡ true
+  pub trap-return : (t : ReturnTo) → goodOf r ≡ true → goodOf (returnOf r old t .registers) ≡ true

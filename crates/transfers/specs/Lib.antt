@@ -1,5 +1,3 @@
-pub mod Changes
 pub mod Records
-pub mod Outcomes
 pub mod Transfers
 pub mod Laws

@@ -21,8 +21,8 @@ popped e = record { ctrsource = e .ctrsource / 2 * 2; ctrtarget = e .ctrtarget; 
 
 -- WRPTR one up, modulo the depth
 unfoldable pub advanced : Registers → Registers
-advanced r = withWrptr r ((r .wrptr % depthOf (r .sctrdepth) + 1) % depthOf (r .sctrdepth))
+advanced r = withWrptr r ((r .buffer .wrptr % depthOf (r .buffer .code) + 1) % depthOf (r .buffer .code))
 
 -- WRPTR one down, modulo the depth: to where logical entry 0 is
 unfoldable pub retreated : Registers → Registers
-retreated r = withWrptr r (physicalOf (r .sctrdepth) (r .wrptr) 0)
+retreated r = withWrptr r (physicalOf (r .buffer .code) (r .buffer .wrptr) 0)

@@ -1,18 +1,10 @@
 // What a retired word, a trap and a trap return decide.
 ghost use mathlib.Core.Path.{_≡_};
-ghost use mathlib.Core.Bool.{true};
-ghost use Rattle.machine.specs.Answers.{answered, answeredPut};
+ghost use Rattle.classifier.specs.Transfers.{typeOf};
+ghost use Rattle.machine.specs.Answers.{valueOf, answered, answeredPut};
 ghost use Rattle.machine.specs.Regs.{withFrozen};
-ghost use Rattle.transfers.specs.Records.{popped, advanced, retreated};
+ghost use Rattle.transfers.specs.Records.{entryFor, popped, advanced, retreated};
 ghost use Rattle.transfers.specs.Transfers.{focusOf, doneOf, retiredOf, inMode, crossing, takenTrap, trapOf, takenReturn, returnOf};
-use crate::Outcome;
-use crate::changes::possible_return;
-use crate::changes::possible_trap;
-use crate::outcomes::retired_outcome;
-use crate::outcomes::return_outcome;
-use crate::outcomes::transfer_type;
-use crate::outcomes::trap_outcome;
-use crate::outcomes::trap_type;
 use crate::records::advance;
 use crate::records::entry_for;
 use crate::records::pop;
@@ -22,45 +14,70 @@ use classifier::Transfer;
 use machine::Decision;
 use machine::Entry;
 use machine::Mode;
+use machine::Outcome;
 use machine::Registers;
+use machine::RetiredWord;
+use machine::ReturnTo;
+use machine::TrapTo;
+use machine::Verdict;
 use machine::answers::answer;
 use machine::answers::answer_put;
 use machine::answers::refuse;
+use machine::answers::value;
 use machine::regs::physical;
+use machine::regs::with_frozen;
 use machine::regs::with_mode;
 use machine::regs::wrapped;
+use qualifying::changes::possible_return;
+use qualifying::changes::possible_trap;
+use qualifying::outcomes::RETURN_TYPE;
+use qualifying::outcomes::retired_outcome;
+use qualifying::outcomes::return_outcome;
+use qualifying::outcomes::transfer_type;
+use qualifying::outcomes::trap_outcome;
+use qualifying::outcomes::trap_type;
 
 // The physical entry that an outcome is about.
 pub fn focus(r: Registers, o: Outcome) -> u64
     ensures { λ p. ⌜ p ≡ focusOf r o ⌝ }
 {
     match o {
-        Outcome::Nothing => wrapped(r.wrptr, r.sctrdepth),
-        Outcome::Record => wrapped(r.wrptr, r.sctrdepth),
-        Outcome::Pop => physical(r.sctrdepth, r.wrptr, 0),
-        Outcome::Swap => physical(r.sctrdepth, r.wrptr, 0),
-        Outcome::Freeze => wrapped(r.wrptr, r.sctrdepth),
+        Outcome::Nothing => wrapped(r.buffer.wrptr, r.buffer.code),
+        Outcome::Record => wrapped(r.buffer.wrptr, r.buffer.code),
+        Outcome::Pop => physical(r.buffer.code, r.buffer.wrptr, 0),
+        Outcome::Swap => physical(r.buffer.code, r.buffer.wrptr, 0),
+        Outcome::Freeze => wrapped(r.buffer.wrptr, r.buffer.code),
     }
 }
 
 fn record(r: Registers, e: Entry) -> Decision
-    ensures { λ d. ⌜ d ≡ answeredPut (advanced r) 1 e ⌝ }
+    ensures { λ d. ⌜ d ≡ answeredPut (advanced r) (valueOf Outcome.Record) e ⌝ }
 {
-    answer_put(advance(r), 1, e)
+    answer_put(advance(r), value(Outcome::Record), e)
 }
 
 fn pop_newest(r: Registers, old: Entry) -> Decision
-    ensures { λ d. ⌜ d ≡ answeredPut (retreated r) 2 (popped old) ⌝ }
+    ensures { λ d. ⌜ d ≡ answeredPut (retreated r) (valueOf Outcome.Pop) (popped old) ⌝ }
 {
-    answer_put(retreat(r), 2, pop(old))
+    answer_put(retreat(r), value(Outcome::Pop), pop(old))
+}
+
+fn swap(r: Registers, e: Entry) -> Decision
+    ensures { λ d. ⌜ d ≡ answeredPut r (valueOf Outcome.Swap) e ⌝ }
+{
+    answer_put(r, value(Outcome::Swap), e)
 }
 
 fn freeze(r: Registers) -> Decision
-    ensures { λ d. ⌜ d ≡ answered (withFrozen r true) 4 ⌝ }
+    ensures { λ d. ⌜ d ≡ answered (withFrozen r) (valueOf Outcome.Freeze) ⌝ }
 {
-    let mut q = r;
-    q.frozen = true;
-    answer(q, 4)
+    answer(with_frozen(r), value(Outcome::Freeze))
+}
+
+fn nothing(r: Registers) -> Decision
+    ensures { λ d. ⌜ d ≡ answered r (valueOf Outcome.Nothing) ⌝ }
+{
+    answer(r, value(Outcome::Nothing))
 }
 
 // An outcome done, with the record e that it would put.
@@ -68,24 +85,26 @@ fn done(r: Registers, old: Entry, e: Entry, o: Outcome) -> Decision
     ensures { λ d. ⌜ d ≡ doneOf r old e o ⌝ }
 {
     match o {
-        Outcome::Nothing => answer(r, 0),
+        Outcome::Nothing => nothing(r),
         Outcome::Record => record(r, e),
         Outcome::Pop => pop_newest(r, old),
-        Outcome::Swap => answer_put(r, 3, e),
+        Outcome::Swap => swap(r, e),
         Outcome::Freeze => freeze(r),
     }
 }
 
-// A retired word that is the transfer t.
-pub fn retired(r: Registers, old: Entry, t: Transfer, taken: bool, pc: u64, target: u64) -> Decision
-    ensures { λ d. ⌜ d ≡ retiredOf r old t taken pc target ⌝ }
+// The record of a retired word.
+fn retired_entry(t: Transfer, w: RetiredWord) -> Entry
+    ensures { λ e. ⌜ e ≡ entryFor (w .pc) (w .target) (typeOf t (w .taken)) ⌝ }
 {
-    done(
-        r,
-        old,
-        entry_for(pc, target, transfer_type(t, taken)),
-        retired_outcome(r, t, taken),
-    )
+    entry_for(w.pc, w.target, transfer_type(t, w.taken))
+}
+
+// A retired word that is the transfer t.
+pub fn retired(r: Registers, old: Entry, t: Transfer, w: RetiredWord) -> Decision
+    ensures { λ d. ⌜ d ≡ retiredOf r old t w ⌝ }
+{
+    done(r, old, retired_entry(t, w), retired_outcome(r, t, w.taken))
 }
 
 // A decision with the mode changed.
@@ -114,59 +133,44 @@ fn crossed(r: Registers, target: Mode, source_pc: u64, target_pc: u64, number: u
     )
 }
 
-fn take_trap(
-    r: Registers,
-    old: Entry,
-    target: Mode,
-    interrupt: bool,
-    cause: u64,
-    epc: u64,
-    handler: u64,
-) -> Decision
-    ensures { λ d. ⌜ d ≡ takenTrap r old target interrupt cause epc handler ⌝ }
+fn take_trap(r: Registers, old: Entry, t: TrapTo) -> Decision
+    ensures { λ d. ⌜ d ≡ takenTrap r old t ⌝ }
 {
-    let e = crossed(r, target, epc, handler, trap_type(interrupt));
-    in_mode(
-        done(r, old, e, trap_outcome(r, target, interrupt, cause)),
-        target,
-    )
+    let m = t.mode;
+    let e = crossed(r, m, t.epc, t.handler, trap_type(t.interrupt));
+    in_mode(done(r, old, e, trap_outcome(r, t)), m)
 }
 
 // A trap.
-pub fn trap(
-    r: Registers,
-    old: Entry,
-    target: Mode,
-    interrupt: bool,
-    cause: u64,
-    epc: u64,
-    handler: u64,
-) -> Decision
-    ensures { λ d. ⌜ d ≡ trapOf r old target interrupt cause epc handler ⌝ }
+pub fn trap(r: Registers, old: Entry, t: TrapTo) -> Decision
+    ensures { λ d. ⌜ d ≡ trapOf r old t ⌝ }
 {
     let m = r.mode;
-    if possible_trap(m, target) {
-        take_trap(r, old, target, interrupt, cause, epc, handler)
+    let n = t.mode;
+    if possible_trap(m, n) {
+        take_trap(r, old, t)
     } else {
-        refuse(r, 4)
+        refuse(r, Verdict::ChangeNotPossible)
     }
 }
 
-fn take_return(r: Registers, old: Entry, target: Mode, pc: u64, target_pc: u64) -> Decision
-    ensures { λ d. ⌜ d ≡ takenReturn r old target pc «target_pc» ⌝ }
+fn take_return(r: Registers, old: Entry, t: ReturnTo) -> Decision
+    ensures { λ d. ⌜ d ≡ takenReturn r old t ⌝ }
 {
-    let e = crossed(r, target, pc, target_pc, 3);
-    in_mode(done(r, old, e, return_outcome(r, target)), target)
+    let m = t.mode;
+    let e = crossed(r, m, t.pc, t.target, RETURN_TYPE);
+    in_mode(done(r, old, e, return_outcome(r, m)), m)
 }
 
 // A trap return.
-pub fn trap_return(r: Registers, old: Entry, target: Mode, pc: u64, target_pc: u64) -> Decision
-    ensures { λ d. ⌜ d ≡ returnOf r old target pc «target_pc» ⌝ }
+pub fn trap_return(r: Registers, old: Entry, t: ReturnTo) -> Decision
+    ensures { λ d. ⌜ d ≡ returnOf r old t ⌝ }
 {
     let m = r.mode;
-    if possible_return(m, target) {
-        take_return(r, old, target, pc, target_pc)
+    let n = t.mode;
+    if possible_return(m, n) {
+        take_return(r, old, t)
     } else {
-        refuse(r, 4)
+        refuse(r, Verdict::ChangeNotPossible)
     }
 }

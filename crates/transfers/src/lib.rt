@@ -1,14 +1,3 @@
-// Retired words, traps and trap returns: whether a transfer qualifies, and what is done (docs/RULES.md, Q).
-pub mod changes;
+// Retired words, traps and trap returns: what is done when they qualify (docs/RULES.md, Q).
 pub mod decisions;
-pub mod outcomes;
 pub mod records;
-
-// What comes of a transfer.
-pub enum Outcome {
-    Nothing,
-    Record,
-    Pop,
-    Swap,
-    Freeze,
-}

@@ -42,12 +42,15 @@ pub fn pop(e: Entry) -> Entry
 pub fn advance(r: Registers) -> Registers
     ensures { λ q. ⌜ q ≡ advanced r ⌝ }
 {
-    with_wrptr(r, wrapped(wrapped(r.wrptr, r.sctrdepth) + 1, r.sctrdepth))
+    with_wrptr(
+        r,
+        wrapped(wrapped(r.buffer.wrptr, r.buffer.code) + 1, r.buffer.code),
+    )
 }
 
 // WRPTR one down.
 pub fn retreat(r: Registers) -> Registers
     ensures { λ q. ⌜ q ≡ retreated r ⌝ }
 {
-    with_wrptr(r, physical(r.sctrdepth, r.wrptr, 0))
+    with_wrptr(r, physical(r.buffer.code, r.buffer.wrptr, 0))
 }

@@ -9,5 +9,6 @@ grant-spec =
     (tie.spec
     (λ c κs. tt)
     (λ c κs. tt)
+    (λ c κs. tt)
     (λ c. search picks depth 9)
     (λ c. search picks depth 9))

@@ -1,6 +1,6 @@
 -- `access::accesses::operated` meets its contract. Assumes nothing.
 use Rattle.access.specs.Accesses.{operatedOf}
-use borrow.Author.Needs.{needs}
+use Rattle.bits.proofs.Picks.{picks}
 use Rattle.access.proofs.accesses.operated.Statement.{statement}
 use Rattle.access.proofs.accesses.operated.Tie as tie
 
@@ -9,15 +9,8 @@ unfolding operatedOf
 operated-spec =
     tie.close
     (tie.spec
-    (λ c. search needs)
     (λ c κs. tt)
-    (λ c. search needs)
     (λ c κs. tt)
-    (λ c. search needs)
     (λ c κs. tt)
-    (λ c. search needs)
-    (λ c κs. tt)
-    (λ c. rw (c .before .enum-told .given .1) (c .answer .ensures))
-    (λ c. rw (c .before .enum-told2 .given .1) (c .write .ensures))
-    (λ c. rw (c .before .enum-told3 .given .1) (c .set .ensures))
-    (λ c. rw (c .before .enum-told4 .given .1) (c .clear .ensures)))
+    (λ c. search picks depth 9)
+    (λ c. search picks depth 9))

@@ -5,4 +5,10 @@ use Rattle.access.proofs.accesses.sctrclr.Tie as tie
 
 pub sctrclr-spec : {M : Type 1} → statement M
 unfolding sctrclrOf
-sctrclr-spec = tie.close (tie.spec (λ c κs. tt) (λ c κs. tt) (λ c. cc))
+sctrclr-spec =
+    tie.close
+    (tie.spec
+    (λ c κs. tt)
+    (λ c κs. tt)
+    (λ c κs. tt)
+    (λ c. cc))

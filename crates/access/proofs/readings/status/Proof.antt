@@ -17,5 +17,5 @@ status-spec =
     (tie.spec
     (λ c κs. tt)
     (λ c κs. tt)
-    (λ c. omega (arith, frozen-le (c .before .before .args .r .frozen)))
+    (λ c. omega (arith, frozen-le (c .before .before .args .b .frozen)))
     (λ c. cc))

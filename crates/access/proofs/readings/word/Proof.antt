@@ -1,6 +1,5 @@
 -- `access::readings::word` meets its contract. Assumes nothing.
 use Rattle.access.specs.Readings.{wordOf}
-use Rattle.bits.proofs.Picks.{picks}
 use Rattle.access.proofs.readings.word.Statement.{statement}
 use Rattle.access.proofs.readings.word.Tie as tie
 
@@ -11,7 +10,4 @@ word-spec =
     (tie.spec
     (λ c κs. tt)
     (λ c κs. tt)
-    (λ c. search picks depth 9)
-    (λ c. search picks depth 9)
-    (λ c. search picks depth 9)
-    (λ c. search picks depth 9))
+    (λ c. cc))

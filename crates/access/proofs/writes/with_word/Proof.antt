@@ -1,6 +1,5 @@
 -- `access::writes::with_word` meets its contract. Assumes nothing.
 use Rattle.access.specs.Writes.{withWord}
-use Rattle.bits.proofs.Picks.{picks}
 use Rattle.access.proofs.writes.with_word.Statement.{statement}
 use Rattle.access.proofs.writes.with_word.Tie as tie
 
@@ -11,7 +10,4 @@ with-word-spec =
     (tie.spec
     (λ c κs. tt)
     (λ c κs. tt)
-    (λ c κs. tt)
-    (λ c. search picks depth 9)
-    (λ c. search picks depth 9)
-    (λ c. search picks depth 9))
+    (λ c. cc))

@@ -3,4 +3,8 @@ use Rattle.access.proofs.writes.write_mctrctl.Statement.{statement}
 use Rattle.access.proofs.writes.write_mctrctl.Tie as tie
 
 pub write-mctrctl-spec : {M : Type 1} → statement M
-write-mctrctl-spec = tie.close (tie.spec (λ c κs. tt) (λ c κs. tt) (λ c. cc))
+write-mctrctl-spec =
+    tie.close
+    (tie.spec
+    (λ c κs. tt)
+    (λ c. cc))

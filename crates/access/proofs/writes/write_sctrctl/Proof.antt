@@ -1,14 +1,11 @@
 -- `access::writes::write_sctrctl` meets its contract. Assumes nothing.
-use Rattle.access.specs.Writes.{sctrctlWritten}
 use Rattle.access.proofs.writes.write_sctrctl.Statement.{statement}
 use Rattle.access.proofs.writes.write_sctrctl.Tie as tie
 
 pub write-sctrctl-spec : {M : Type 1} → statement M
-unfolding sctrctlWritten
 write-sctrctl-spec =
     tie.close
     (tie.spec
-    (λ c κs. tt)
     (λ c κs. tt)
     (λ c κs. tt)
     (λ c κs. tt)

@@ -5,11 +5,11 @@ use Rattle.csr.proofs.Ranges.{vsireg-low, vsireg-high, guest-below, gue
 use Rattle.csr.proofs.numbers.guest_register.Statement.{statement}
 use Rattle.csr.proofs.numbers.guest_register.Tie as tie
 
-sub-t4 : tie.Need-sub-t4
-sub-t4 c = omega arith
+sub-t7 : tie.Need-sub-t7
+sub-t7 c = omega arith
 
-sub-t5 : tie.Need-sub-t5
-sub-t5 c = omega arith
+sub-t9 : tie.Need-sub-t9
+sub-t9 c = omega arith
 
 returns : tie.Need-returns
 unfolding guestRegister
@@ -35,4 +35,4 @@ returns-7 : tie.Need-returns-7
 returns-7 c = guest-above _ (omega arith)
 
 pub guest-register-spec : {M : Type 1} → statement M
-guest-register-spec = tie.close (tie.spec sub-t4 sub-t5 returns returns-2 returns-3 returns-4 returns-5 returns-6 returns-7)
+guest-register-spec = tie.close (tie.spec sub-t7 sub-t9 returns returns-2 returns-3 returns-4 returns-5 returns-6 returns-7)

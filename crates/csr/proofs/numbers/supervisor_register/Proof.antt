@@ -5,11 +5,11 @@ use Rattle.csr.proofs.Ranges.{sireg-low, sireg-high, supervisor-below, 
 use Rattle.csr.proofs.numbers.supervisor_register.Statement.{statement}
 use Rattle.csr.proofs.numbers.supervisor_register.Tie as tie
 
-sub-t4 : tie.Need-sub-t4
-sub-t4 c = omega arith
+sub-t7 : tie.Need-sub-t7
+sub-t7 c = omega arith
 
-sub-t5 : tie.Need-sub-t5
-sub-t5 c = omega arith
+sub-t9 : tie.Need-sub-t9
+sub-t9 c = omega arith
 
 returns : tie.Need-returns
 unfolding supervisorRegister
@@ -43,4 +43,4 @@ returns-9 : tie.Need-returns-9
 returns-9 c = supervisor-above _ (omega arith) (omega arith)
 
 pub supervisor-register-spec : {M : Type 1} → statement M
-supervisor-register-spec = tie.close (tie.spec sub-t4 sub-t5 returns returns-2 returns-3 returns-4 returns-5 returns-6 returns-7 returns-8 returns-9)
+supervisor-register-spec = tie.close (tie.spec sub-t7 sub-t9 returns returns-2 returns-3 returns-4 returns-5 returns-6 returns-7 returns-8 returns-9)

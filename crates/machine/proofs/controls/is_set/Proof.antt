@@ -5,4 +5,4 @@ use Rattle.machine.proofs.controls.is_set.Tie as tie
 
 pub is-set-spec : {M : Type 1} → statement M
 unfolding isSet
-is-set-spec = tie.close (tie.spec (λ c κs. tt) (λ c κs. tt) (λ c. cc))
+is-set-spec = tie.close (tie.spec (λ c κs. tt) (λ c κs. tt) (λ c κs. tt) (λ c. cc))

@@ -5,4 +5,4 @@ use Rattle.machine.proofs.modes.is_on.Tie as tie
 
 pub is-on-spec : {M : Type 1} → statement M
 unfolding onOf
-is-on-spec = tie.close (tie.spec (λ c κs. tt) (λ c κs. tt) (λ c. cc))
+is-on-spec = tie.close (tie.spec (λ c κs. tt) (λ c κs. tt) (λ c κs. tt) (λ c. cc))

@@ -9,4 +9,5 @@ pop-newest-spec =
     (λ c κs. tt)
     (λ c κs. tt)
     (λ c κs. tt)
+    (λ c κs. tt)
     (λ c. cc))

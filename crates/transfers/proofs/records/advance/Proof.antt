@@ -11,7 +11,7 @@ advance-spec =
     tie.close
     (tie.spec
     (λ c κs. tt)
-    (λ c. let r = c .before .args .r in omega (arith, wrapped-lt (r .wrptr) (r .sctrdepth)))
+    (λ c. let r = c .before .args .r in omega (arith, wrapped-lt (r .buffer .wrptr) (r .buffer .code)))
     (λ c κs. tt)
     (λ c κs. tt)
     (λ c. cc))

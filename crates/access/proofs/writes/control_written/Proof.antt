@@ -1,0 +1,11 @@
+-- `access::writes::control_written` meets its contract. Assumes nothing.
+use Rattle.access.proofs.writes.control_written.Statement.{statement}
+use Rattle.access.proofs.writes.control_written.Tie as tie
+
+pub control-written-spec : {M : Type 1} → statement M
+control-written-spec =
+    tie.close
+    (tie.spec
+    (λ c κs. tt)
+    (λ c κs. tt)
+    (λ c. cc))

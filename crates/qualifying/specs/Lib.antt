@@ -1,0 +1,4 @@
+pub mod Changes
+pub mod Filters
+pub mod Outcomes
+pub mod Laws

@@ -1,7 +1,0 @@
--- `transfers::outcomes::is_live` meets its contract. Assumes nothing.
-use Rattle.bits.proofs.Picks.{picks}
-use Rattle.transfers.proofs.outcomes.is_live.Statement.{statement}
-use Rattle.transfers.proofs.outcomes.is_live.Tie as tie
-
-pub is-live-spec : {M : Type 1} → statement M
-is-live-spec = tie.close (tie.spec (λ c κs. tt) (λ c. search picks depth 9) (λ c. search picks depth 9))
