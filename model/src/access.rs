@@ -117,7 +117,8 @@ fn is_outside_window(registers: &Registers, target: Target) -> bool {
     matches!(target, Target::Register(register) if registers.is_outside_window(register))
 }
 
-/// Whether the state-enable bits are asked. They are not for the select registers.
+/// Whether the state-enable bits are asked. They are not for mctrctl, the select registers, and
+/// iregs outside the window.
 fn is_enabled_state(registers: &Registers, target: Target) -> bool {
     use Register::*;
     match target {

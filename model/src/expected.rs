@@ -4,6 +4,7 @@
 mod access_sweep;
 mod random;
 mod recorder_sweep;
+mod trace_sweep;
 mod traces;
 
 use std::fs;
@@ -12,6 +13,7 @@ use std::path::{Path, PathBuf};
 
 pub use self::access_sweep::access_sweep;
 pub use self::recorder_sweep::{random_events, recorder_sweep};
+pub use self::trace_sweep::trace_sweep;
 use self::traces::{replay_files, setup_files};
 use crate::classifier::{name, transfer_type};
 use crate::digest::{digest, xorshift64, SEED};
@@ -29,6 +31,7 @@ pub fn files() -> Vec<(&'static str, Vec<u8>)> {
             classifier_sweep().into_bytes(),
         ),
         ("crates/access_sweep/stdout", access_sweep().into_bytes()),
+        ("crates/trace_sweep/stdout", trace_sweep().into_bytes()),
         (
             "crates/recorder_sweep/stdout",
             recorder_sweep().into_bytes(),

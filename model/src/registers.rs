@@ -84,27 +84,49 @@ pub(crate) enum Register {
     Vsireg(u8),
 }
 
-/// The listed CSR numbers. 0x154 and 0x254 are not among them.
+/// The CSR numbers that are listed. 0x154 and 0x254 are not among them.
+pub mod csr {
+    pub const SCTRCTL: u64 = 0x14E;
+    pub const SCTRSTATUS: u64 = 0x14F;
+    pub const SCTRDEPTH: u64 = 0x15F;
+    pub const VSCTRCTL: u64 = 0x24E;
+    pub const MCTRCTL: u64 = 0x34E;
+    pub const SISELECT: u64 = 0x150;
+    pub const SIREG: u64 = 0x151;
+    pub const SIREG2: u64 = 0x152;
+    pub const SIREG3: u64 = 0x153;
+    pub const SIREG4: u64 = 0x155;
+    pub const SIREG5: u64 = 0x156;
+    pub const SIREG6: u64 = 0x157;
+    pub const VSISELECT: u64 = 0x250;
+    pub const VSIREG: u64 = 0x251;
+    pub const VSIREG2: u64 = 0x252;
+    pub const VSIREG3: u64 = 0x253;
+    pub const VSIREG4: u64 = 0x255;
+    pub const VSIREG5: u64 = 0x256;
+    pub const VSIREG6: u64 = 0x257;
+}
+
 const LISTED: [(u64, Register); 19] = [
-    (0x14E, Sctrctl),
-    (0x14F, Sctrstatus),
-    (0x15F, Sctrdepth),
-    (0x24E, Vsctrctl),
-    (0x34E, Mctrctl),
-    (0x150, Siselect),
-    (0x151, Sireg(1)),
-    (0x152, Sireg(2)),
-    (0x153, Sireg(3)),
-    (0x155, Sireg(4)),
-    (0x156, Sireg(5)),
-    (0x157, Sireg(6)),
-    (0x250, Vsiselect),
-    (0x251, Vsireg(1)),
-    (0x252, Vsireg(2)),
-    (0x253, Vsireg(3)),
-    (0x255, Vsireg(4)),
-    (0x256, Vsireg(5)),
-    (0x257, Vsireg(6)),
+    (csr::SCTRCTL, Sctrctl),
+    (csr::SCTRSTATUS, Sctrstatus),
+    (csr::SCTRDEPTH, Sctrdepth),
+    (csr::VSCTRCTL, Vsctrctl),
+    (csr::MCTRCTL, Mctrctl),
+    (csr::SISELECT, Siselect),
+    (csr::SIREG, Sireg(1)),
+    (csr::SIREG2, Sireg(2)),
+    (csr::SIREG3, Sireg(3)),
+    (csr::SIREG4, Sireg(4)),
+    (csr::SIREG5, Sireg(5)),
+    (csr::SIREG6, Sireg(6)),
+    (csr::VSISELECT, Vsiselect),
+    (csr::VSIREG, Vsireg(1)),
+    (csr::VSIREG2, Vsireg(2)),
+    (csr::VSIREG3, Vsireg(3)),
+    (csr::VSIREG4, Vsireg(4)),
+    (csr::VSIREG5, Vsireg(5)),
+    (csr::VSIREG6, Vsireg(6)),
 ];
 
 /// The register of a CSR number, if it is listed.

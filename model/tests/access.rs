@@ -3,29 +3,15 @@
 
 use model::access::{Access, Answer, Operation};
 use model::digest::{xorshift64, SEED};
+use model::registers::csr::*;
 use model::registers::{Entry, Mode, Registers};
 
 use Mode::*;
 
-const SCTRCTL: u64 = 0x14E;
-const SCTRSTATUS: u64 = 0x14F;
-const SISELECT: u64 = 0x150;
-const SIREG: u64 = 0x151;
-const SIREG3: u64 = 0x153;
-const SIREG4: u64 = 0x155;
-const SIREG6: u64 = 0x157;
-const SCTRDEPTH: u64 = 0x15F;
-const VSCTRCTL: u64 = 0x24E;
-const VSISELECT: u64 = 0x250;
-const VSIREG: u64 = 0x251;
-const VSIREG3: u64 = 0x253;
-const VSIREG4: u64 = 0x255;
-const VSIREG6: u64 = 0x257;
-const MCTRCTL: u64 = 0x34E;
-
+/// The numbers themselves, said here once more.
 const LISTED: [u64; 19] = [
-    SCTRCTL, SCTRSTATUS, SCTRDEPTH, VSCTRCTL, MCTRCTL, SISELECT, SIREG, 0x152, SIREG3, SIREG4,
-    0x156, SIREG6, VSISELECT, VSIREG, 0x252, VSIREG3, VSIREG4, 0x256, VSIREG6,
+    0x14E, 0x14F, 0x15F, 0x24E, 0x34E, 0x150, 0x151, 0x152, 0x153, 0x155, 0x156, 0x157, 0x250,
+    0x251, 0x252, 0x253, 0x255, 0x256, 0x257,
 ];
 
 /// Numbers next to listed ones, numbers of other registers, and listed ones with a high bit set.

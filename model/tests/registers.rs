@@ -3,17 +3,27 @@
 
 use model::access::{Access, Answer, Operation};
 use model::digest::{xorshift64, SEED};
+use model::registers::csr::{
+    self, MCTRCTL, SCTRCTL, SCTRDEPTH, SCTRSTATUS, SISELECT, VSCTRCTL, VSISELECT,
+};
 use model::registers::{Entry, Mode, Registers};
 
-const SCTRCTL: u64 = 0x14E;
-const SCTRSTATUS: u64 = 0x14F;
-const SISELECT: u64 = 0x150;
-const SIREG: [u64; 6] = [0x151, 0x152, 0x153, 0x155, 0x156, 0x157];
-const SCTRDEPTH: u64 = 0x15F;
-const VSCTRCTL: u64 = 0x24E;
-const VSISELECT: u64 = 0x250;
-const VSIREG: [u64; 6] = [0x251, 0x252, 0x253, 0x255, 0x256, 0x257];
-const MCTRCTL: u64 = 0x34E;
+const SIREG: [u64; 6] = [
+    csr::SIREG,
+    csr::SIREG2,
+    csr::SIREG3,
+    csr::SIREG4,
+    csr::SIREG5,
+    csr::SIREG6,
+];
+const VSIREG: [u64; 6] = [
+    csr::VSIREG,
+    csr::VSIREG2,
+    csr::VSIREG3,
+    csr::VSIREG4,
+    csr::VSIREG5,
+    csr::VSIREG6,
+];
 
 /// Both state enables are set, and all else is as after a reset.
 fn registers(mode: Mode) -> Registers {
@@ -293,7 +303,8 @@ fn set_and_clear_drop_undefined_bits_of_an_entry() {
     }
 }
 
-/// The last selection that is an entry, and the next one, which reads 0 and takes writes.
+/// The last selection that is an entry, and the next one, which reads 0 and is not changed by the
+/// writes that are granted.
 #[test]
 fn entries_from_depth_on_read_0() {
     for (depth_code, last) in [(0, 0x20F), (1, 0x21F), (2, 0x23F), (3, 0x27F)] {

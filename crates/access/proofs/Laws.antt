@@ -11,12 +11,13 @@ use Rattle.bits.specs.Choice.{if_then_else_}
 use Rattle.bits.specs.Words.{keep}
 use Rattle.bits.proofs.Cases.{Known, known}
 use Rattle.bits.proofs.Laws.{keep-keep, keep-joined, keep-of-joined}
-use Rattle.machine.specs.Answers.{numberOf, isAccepted, refused, answered, answeredClear}
+use Rattle.machine.specs.Answers.{numberOf, isAccepted, refused, accepted, acceptedClear}
 use Rattle.machine.specs.Controls.{mctrctlMask, sctrctlMask, machineMask}
 use Rattle.machine.specs.Entries.{definedOf}
-use Rattle.machine.specs.Regs.{topCode, depthOf, goodOf}
-use Rattle.machine.proofs.Depths.{depth-pos, wrapped-lt}
-use Rattle.machine.proofs.Good.{Good, parts, whole}
+use Rattle.machine.specs.Depths.{topCode, depthOf}
+use Rattle.machine.specs.Good.{goodOf}
+use Rattle.machine.proofs.DepthLaws.{depth-pos, wrapped-lt}
+use Rattle.machine.proofs.GoodLaws.{Good, parts, whole}
 use Rattle.machine.specs.declared.CsrAccess.{CsrAccess}
 use Rattle.machine.specs.declared.Enables.{Enables}
 use Rattle.machine.specs.declared.Registers.{Registers}
@@ -26,7 +27,7 @@ use Rattle.machine.specs.declared.Decision.{Decision}
 use Rattle.machine.specs.declared.Operation.{Operation}
 use Rattle.machine.specs.declared.Verdict.{Verdict}
 use Rattle.machine.specs.declared.Verdict.the-variants.{Accepted, IllegalInstruction, VirtualInstruction, NoSuchRegister, ChangeNotPossible, BadState}
-use Rattle.csr.specs.Numbers.{registerOf, meantOf}
+use Rattle.csr.specs.Numbers.{registerOf, csrIn}
 use Rattle.csr.specs.Steps.{factsOf, sctrclrFacts, refusalOf}
 use Rattle.csr.specs.declared.View.{View}
 use Rattle.csr.specs.declared.View.the-variants.{Machine, Supervisor, Guest}
@@ -59,7 +60,7 @@ granted-number : (r : Registers) (old : Entry) (g : Csr) (o : Operation) (x : �
 unfolding grantedOf operatedOf writeOf
 granted-number r old g o x = go (isRead o)
   where
-    go : (b : Bool) → (if b then answered r (readingOf r old g) else writeOf r old g (readingOf r old g) (operandOf o (readingOf r old g) x)) .number ≡ 0
+    go : (b : Bool) → (if b then accepted r (readingOf r old g) else writeOf r old g (readingOf r old g) (operandOf o (readingOf r old g) x)) .number ≡ 0
     go true = refl
     go false = refl
 
@@ -85,23 +86,23 @@ access-number : (r : Registers) (old : Entry) (a : CsrAccess)
 unfolding accessOf accessTo
 access-number r old a =
     let g = registerOf (a .number) in
-    let m = meantOf (r .mode) g in
+    let m = csrIn (r .mode) g in
     unless-number (refusalOf r (factsOf r g)) r (grantedOf r old m (a .operation) (a .operand)) (granted-number r old m (a .operation) (a .operand))
 
 clear-number : (r : Registers) → sctrclrOf r .number ≡ numberOf (refusalOf r sctrclrFacts)
 unfolding sctrclrOf
-clear-number r = unless-number (refusalOf r sctrclrFacts) r (answeredClear r) refl
+clear-number r = unless-number (refusalOf r sctrclrFacts) r (acceptedClear r) refl
 
 refused-access : (r : Registers) (old : Entry) (a : CsrAccess) → (accessOf r old a .number ≡ 0 → ⊥) → Unchanged r (accessOf r old a)
 unfolding accessOf accessTo
 refused-access r old a =
     let g = registerOf (a .number) in
-    let m = meantOf (r .mode) g in
+    let m = csrIn (r .mode) g in
     unless (refusalOf r (factsOf r g)) r (grantedOf r old m (a .operation) (a .operand)) (granted-number r old m (a .operation) (a .operand))
 
 refused-clear : (r : Registers) → (sctrclrOf r .number ≡ 0 → ⊥) → Unchanged r (sctrclrOf r)
 unfolding sctrclrOf
-refused-clear r = unless (refusalOf r sctrclrFacts) r (answeredClear r) refl
+refused-clear r = unless (refusalOf r sctrclrFacts) r (acceptedClear r) refl
 
 -- a word that was just written reads as its defined bits; a place that takes no write reads 0
 module _ (old : Entry) (k x : ℕ) where
@@ -175,7 +176,7 @@ good-granted : (r : Registers) (old : Entry) (g : Csr) (o : Operation) (x : ℕ)
 unfolding grantedOf operatedOf writeOf
 good-granted r old g o x q = go (isRead o)
   where
-    go : (b : Bool) → Good ((if b then answered r (readingOf r old g) else writeOf r old g (readingOf r old g) (operandOf o (readingOf r old g) x)) .registers)
+    go : (b : Bool) → Good ((if b then accepted r (readingOf r old g) else writeOf r old g (readingOf r old g) (operandOf o (readingOf r old g) x)) .registers)
     go true = q
     go false = good-write r g _ q
 
@@ -191,13 +192,13 @@ unfolding accessOf accessTo
 good-access r old a h =
     let q = parts r h in
     let g = registerOf (a .number) in
-    let m = meantOf (r .mode) g in
+    let m = csrIn (r .mode) g in
     whole _
     (good-unless (refusalOf r (factsOf r g)) r (grantedOf r old m (a .operation) (a .operand)) q (good-granted r old m (a .operation) (a .operand) q))
 
 good-clear : (r : Registers) → goodOf r ≡ true → goodOf (sctrclrOf r .registers) ≡ true
 unfolding sctrclrOf
-good-clear r h = let q = parts r h in whole _ (good-unless (refusalOf r sctrclrFacts) r (answeredClear r) q q)
+good-clear r h = let q = parts r h in whole _ (good-unless (refusalOf r sctrclrFacts) r (acceptedClear r) q q)
 
 good-host : (r : Registers) (e : Enables) → goodOf r ≡ true → goodOf (hostOf r e .registers) ≡ true
 unfolding hostOf goodOf

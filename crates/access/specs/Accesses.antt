@@ -3,8 +3,9 @@ use Prim.Native.Nat.{ℕ, _%_}
 use mathlib.Core.Bool.{Bool, true, false}
 use Rattle.bits.specs.Choice.{if_then_else_}
 use Rattle.bits.specs.Words.{joined, without}
-use Rattle.machine.specs.Answers.{numberOf, isAccepted, refused, answered, answeredClear}
-use Rattle.machine.specs.Regs.{withEnables, physicalOf}
+use Rattle.machine.specs.Answers.{numberOf, isAccepted, refused, accepted, acceptedClear}
+use Rattle.machine.specs.Regs.{withEnables}
+use Rattle.machine.specs.Depths.{physicalOf}
 use Rattle.machine.specs.declared.CsrAccess.{CsrAccess}
 use Rattle.machine.specs.declared.Decision.{Decision}
 use Rattle.machine.specs.declared.Enables.{Enables}
@@ -14,7 +15,7 @@ use Rattle.machine.specs.declared.Operation.{Operation}
 use Rattle.machine.specs.declared.Operation.the-variants.{Read, Write, Set, Clear}
 use Rattle.machine.specs.declared.Verdict.{Verdict}
 use Rattle.machine.specs.declared.Verdict.the-variants.{Accepted}
-use Rattle.csr.specs.Numbers.{registerOf, meantOf}
+use Rattle.csr.specs.Numbers.{registerOf, csrIn}
 use Rattle.csr.specs.Steps.{selectionOf, factsOf, sctrclrFacts, refusalOf}
 use Rattle.csr.specs.declared.Csr.{Csr}
 use Rattle.access.specs.Readings.{readingOf}
@@ -40,7 +41,7 @@ writeOf r old g v x =
 
 -- an operation on a register that reads v
 unfoldable pub operatedOf : Registers → Entry → Csr → Operation → ℕ → ℕ → Decision
-operatedOf r old g o v x = if isRead o then answered r v else writeOf r old g v (operandOf o v x)
+operatedOf r old g o v x = if isRead o then accepted r v else writeOf r old g v (operandOf o v x)
 
 -- a granted access
 unfoldable pub grantedOf : Registers → Entry → Csr → Operation → ℕ → Decision
@@ -52,20 +53,20 @@ unlessRefused v r d = if isAccepted v then d else refused r v
 
 -- an access to the register of a CSR number, given the entry in focus
 unfoldable pub accessTo : Registers → Entry → Csr → Operation → ℕ → Decision
-accessTo r old g o x = unlessRefused (refusalOf r (factsOf r g)) r (grantedOf r old (meantOf (r .mode) g) o x)
+accessTo r old g o x = unlessRefused (refusalOf r (factsOf r g)) r (grantedOf r old (csrIn (r .mode) g) o x)
 
 unfoldable pub accessOf : Registers → Entry → CsrAccess → Decision
 accessOf r old a = accessTo r old (registerOf (a .number)) (a .operation) (a .operand)
 
 -- the physical entry that an access is about: the one that the register's selection means
-unfoldable pub focusOf : Registers → ℕ → ℕ
-focusOf r number =
-    physicalOf (r .buffer .code) (r .buffer .wrptr) (selectionOf (r .selects) (meantOf (r .mode) (registerOf number)) % 256)
+unfoldable pub accessFocus : Registers → ℕ → ℕ
+accessFocus r number =
+    physicalOf (r .buffer .code) (r .buffer .wrptr) (selectionOf (r .selects) (csrIn (r .mode) (registerOf number)) % 256)
 
 -- SCTRCLR zeroes all entry words; WRPTR and FROZEN stay
 unfoldable pub sctrclrOf : Registers → Decision
-sctrclrOf r = unlessRefused (refusalOf r sctrclrFacts) r (answeredClear r)
+sctrclrOf r = unlessRefused (refusalOf r sctrclrFacts) r (acceptedClear r)
 
 -- the host sets the two state-enable bits
 unfoldable pub hostOf : Registers → Enables → Decision
-hostOf r e = answered (withEnables r e) 0
+hostOf r e = accepted (withEnables r e) 0

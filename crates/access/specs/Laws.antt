@@ -8,7 +8,8 @@ use Rattle.bits.specs.Words.{bitAt, keep}
 use Rattle.machine.specs.Answers.{numberOf}
 use Rattle.machine.specs.Controls.{mctrctlMask, sctrctlMask}
 use Rattle.machine.specs.Entries.{definedOf}
-use Rattle.machine.specs.Regs.{topCode, depthOf, goodOf}
+use Rattle.machine.specs.Depths.{topCode, depthOf}
+use Rattle.machine.specs.Good.{goodOf}
 use Rattle.machine.specs.declared.CsrAccess.{CsrAccess}
 use Rattle.machine.specs.declared.Enables.{Enables}
 use Rattle.machine.specs.declared.Registers.{Registers}

@@ -6,7 +6,7 @@ use Rattle.bits.specs.Choice.{if_then_else_}
 use Rattle.bits.specs.Words.{keep}
 use Rattle.machine.specs.Controls.{sctrctlMask}
 use Rattle.machine.specs.Entries.{definedOf}
-use Rattle.machine.specs.Regs.{depthOf}
+use Rattle.machine.specs.Depths.{depthOf}
 use Rattle.machine.specs.declared.Buffer.{Buffer}
 use Rattle.machine.specs.declared.ControlWords.{ControlWords}
 use Rattle.machine.specs.declared.Registers.{Registers}

@@ -5,7 +5,8 @@ use Rattle.bits.specs.Choice.{if_then_else_}
 use Rattle.bits.specs.Words.{bitAt, keep, joined}
 use Rattle.machine.specs.Controls.{mctrctlMask, sctrctlMask, machineMask}
 use Rattle.machine.specs.Entries.{definedOf}
-use Rattle.machine.specs.Regs.{withControls, withBuffer, withSelects, topCode, depthOf}
+use Rattle.machine.specs.Regs.{withControls, withBuffer, withSelects}
+use Rattle.machine.specs.Depths.{topCode, depthOf}
 use Rattle.machine.specs.declared.Buffer.{Buffer}
 use Rattle.machine.specs.declared.ControlWords.{ControlWords}
 use Rattle.machine.specs.declared.Effect.{Effect}

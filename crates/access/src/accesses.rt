@@ -1,12 +1,12 @@
 // A register access, SCTRCLR and the host's event.
 ghost use mathlib.Core.Path.{_≡_};
-ghost use Rattle.machine.specs.Answers.{answeredClear};
-ghost use Rattle.access.specs.Accesses.{isRead, operandOf, writeOf, operatedOf, grantedOf, unlessRefused, accessTo, accessOf, focusOf, sctrclrOf, hostOf};
+ghost use Rattle.machine.specs.Answers.{acceptedClear};
+ghost use Rattle.access.specs.Accesses.{isRead, operandOf, writeOf, operatedOf, grantedOf, unlessRefused, accessTo, accessOf, accessFocus, sctrclrOf, hostOf};
 use crate::readings::reading;
 use crate::writes::effect_written;
 use crate::writes::registers_written;
 use csr::Csr;
-use csr::numbers::meant;
+use csr::numbers::csr_in;
 use csr::numbers::register;
 use csr::steps::facts_of;
 use csr::steps::refusal;
@@ -19,12 +19,12 @@ use machine::Entry;
 use machine::Operation;
 use machine::Registers;
 use machine::Verdict;
-use machine::answers::answer;
-use machine::answers::answer_clear;
+use machine::answers::accept;
+use machine::answers::accept_clear;
 use machine::answers::is_accepted;
 use machine::answers::number;
 use machine::answers::refuse;
-use machine::regs::physical;
+use machine::depths::physical;
 use machine::regs::with_enables;
 
 fn is_read(o: Operation) -> bool
@@ -72,7 +72,7 @@ fn operated(r: Registers, old: Entry, g: Csr, o: Operation, v: u64, x: u64) -> D
     ensures { λ d. ⌜ d ≡ operatedOf r old g o v x ⌝ }
 {
     if is_read(o) {
-        answer(r, v)
+        accept(r, v)
     } else {
         write_operand(r, old, g, o, v, x)
     }
@@ -99,10 +99,10 @@ fn access_register(r: Registers, old: Entry, g: Csr, o: Operation, x: u64) -> De
     ensures { λ d. ⌜ d ≡ accessTo r old g o x ⌝ }
 {
     let m = r.mode;
-    grant(refusal(r, facts_of(r, g)), r, old, meant(m, g), o, x)
+    grant(refusal(r, facts_of(r, g)), r, old, csr_in(m, g), o, x)
 }
 
-// An access to a CSR number, given the entry in focus.
+// An access to a CSR number, given the entry in focus. Number 5 is the caller's to look for.
 pub fn access(r: Registers, old: Entry, a: CsrAccess) -> Decision
     ensures { λ d. ⌜ d ≡ accessOf r old a ⌝ }
 {
@@ -112,34 +112,35 @@ pub fn access(r: Registers, old: Entry, a: CsrAccess) -> Decision
 
 // The physical entry that an access is about.
 pub fn focus(r: Registers, number: u64) -> u64
-    ensures { λ p. ⌜ p ≡ focusOf r number ⌝ }
+    ensures { λ p. ⌜ p ≡ accessFocus r number ⌝ }
 {
     let m = r.mode;
     let s = r.selects;
-    let i = selection(s, meant(m, register(number)));
+    let i = selection(s, csr_in(m, register(number)));
     physical(r.buffer.code, r.buffer.wrptr, bits::low(i, 8))
 }
 
 // All entries cleared, unless the steps refuse.
 fn grant_clear(v: Verdict, r: Registers) -> Decision
-    ensures { λ d. ⌜ d ≡ unlessRefused v r (answeredClear r) ⌝ }
+    ensures { λ d. ⌜ d ≡ unlessRefused v r (acceptedClear r) ⌝ }
 {
     if is_accepted(v) {
-        answer_clear(r)
+        accept_clear(r)
     } else {
         refuse(r, v)
     }
 }
 
+// SCTRCLR. Number 5 is the caller's to look for.
 pub fn sctrclr(r: Registers) -> Decision
     ensures { λ d. ⌜ d ≡ sctrclrOf r ⌝ }
 {
     grant_clear(refusal(r, sctrclr_facts()), r)
 }
 
-// The host sets the two state-enable bits.
+// The host sets the two state-enable bits. Number 5 is the caller's to look for.
 pub fn host(r: Registers, e: Enables) -> Decision
     ensures { λ d. ⌜ d ≡ hostOf r e ⌝ }
 {
-    answer(with_enables(r, e), 0)
+    accept(with_enables(r, e), 0)
 }

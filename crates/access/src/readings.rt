@@ -9,8 +9,8 @@ use machine::ControlWords;
 use machine::Entry;
 use machine::Registers;
 use machine::controls::SCTRCTL_MASK;
+use machine::depths::in_depth;
 use machine::entries::defined;
-use machine::regs::in_depth;
 
 // FROZEN at its place in sctrstatus.
 fn frozen_bit(frozen: bool) -> u64

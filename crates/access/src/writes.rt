@@ -18,12 +18,12 @@ use machine::Selects;
 use machine::controls::MACHINE_MASK;
 use machine::controls::MCTRCTL_MASK;
 use machine::controls::SCTRCTL_MASK;
+use machine::depths::capped;
+use machine::depths::wrapped;
 use machine::entries::defined;
-use machine::regs::capped;
 use machine::regs::with_buffer;
 use machine::regs::with_controls;
 use machine::regs::with_selects;
-use machine::regs::wrapped;
 
 fn write_mctrctl(c: ControlWords, x: u64) -> ControlWords
     ensures { λ q. ⌜ q ≡ withMctrctl c (keep mctrctlMask x) ⌝ }

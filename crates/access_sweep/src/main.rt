@@ -13,7 +13,7 @@ use machine::Mode;
 use machine::Registers;
 use machine::Selects;
 use machine::Verdict;
-use machine::answers::number_place;
+use machine::answers::number_index;
 use machine::answers::refuse;
 use machine::controls::MCTRCTL_MASK;
 use machine::controls::SCTRCTL_MASK;
@@ -22,7 +22,6 @@ use machine::regs::with_controls;
 use machine::regs::with_enables;
 use machine::regs::with_mode;
 use machine::regs::with_selects;
-use sweep_support::codes::operation_of;
 use sweep_support::digests::digest_answer;
 use sweep_support::digests::digest_entry;
 use sweep_support::digests::digest_registers;
@@ -31,6 +30,7 @@ use sweep_support::lines::put_word;
 use test_support::SEED;
 use test_support::digest;
 use test_support::xorshift64;
+use trace::codes::operation_of;
 
 // What was seen, the last pseudo-random number and the last entry in focus.
 struct Run {
@@ -42,7 +42,10 @@ struct Run {
     entries: u64,
 }
 
-const NUMBERS: [u64; 30] = [
+// Every listed number and its neighbours, the ends of the ranges, and one that is listed but for a
+// high bit.
+const NUMBERS: [u64; 37] = [
+    0,
     0x14D,
     0x14E,
     0x14F,
@@ -58,6 +61,8 @@ const NUMBERS: [u64; 30] = [
     0x15E,
     0x15F,
     0x160,
+    0x1FF,
+    0x200,
     0x24D,
     0x24E,
     0x24F,
@@ -70,9 +75,13 @@ const NUMBERS: [u64; 30] = [
     0x256,
     0x257,
     0x258,
+    0x2FF,
+    0x300,
     0x34D,
     0x34E,
     0x34F,
+    0xFFF,
+    0x1_0000_014E,
 ];
 
 // Both ends of the window, of the entries in use at each depth, and a high bit.
@@ -107,7 +116,7 @@ fn after(old: Entry, effect: Effect) -> Entry {
 
 fn tallied(run: Run, d: Decision) -> Run {
     let mut next = run;
-    let k = number_place(d.number) as usize;
+    let k = number_index(d.number) as usize;
     if k < 6 {
         next.counts[k] = std::num::wrapping_add_u64(next.counts[k], 1);
     }
@@ -144,7 +153,7 @@ fn accessed(run: Run, r: Registers, number: u64, operation: u64) -> Run {
     let mut next = run;
     next.random = c;
     next.last = e;
-    if machine::regs::is_good(r) {
+    if machine::good::is_good(r) {
         let access = CsrAccess {
             operation: operation_of(operation),
             number,
@@ -168,7 +177,7 @@ fn operated(run: Run, r: Registers, number: u64) -> Run {
 // All numbers.
 fn numbered(run: Run, r: Registers) -> Run {
     let mut next = run;
-    for k in 0..30 {
+    for k in 0..37 {
         next = operated(next, r, NUMBERS[k]);
     }
     next
@@ -177,7 +186,7 @@ fn numbered(run: Run, r: Registers) -> Run {
 // SCTRCLR and the host's event, with the last entry.
 fn others(run: Run, r: Registers) -> Run {
     let x = run.random;
-    if machine::regs::is_good(r) {
+    if machine::good::is_good(r) {
         let next = tallied(run, access::accesses::sctrclr(r));
         let enables = Enables {
             mstateen0: bits::bit(x, 0),
@@ -231,12 +240,21 @@ fn vsctrctl_of(s: u64, x: u64) -> u64 {
     }
 }
 
-fn wrptr_of(s: u64, x: u64) -> u64 {
-    let depth = machine::regs::depth(s % 5);
-    match s % 16 {
-        5 => depth,
-        13 => x % 256,
-        _ => machine::regs::wrapped(x, s % 5),
+fn code_of(s: u64) -> u64 {
+    if s % 10 == 9 {
+        0xFFFF_FFFF_FFFF_FFFF
+    } else {
+        s % 5
+    }
+}
+
+fn wrptr_of(s: u64, code: u64, x: u64) -> u64 {
+    match s % 32 {
+        5 => machine::depths::depth(code),
+        13 => x,
+        21 => machine::depths::depth(code),
+        29 => 0xFFFF_FFFF_FFFF_FFFF,
+        _ => machine::depths::wrapped(x, code),
     }
 }
 
@@ -255,9 +273,10 @@ fn swept_state(run: Run, mode: Mode, s: u64) -> Run {
         mctrctl: mctrctl_of(s, a),
         vsctrctl: vsctrctl_of(s, b),
     };
+    let code = code_of(s);
     let buffer = Buffer {
-        code: s % 5,
-        wrptr: wrptr_of(s, c),
+        code,
+        wrptr: wrptr_of(s, code, c),
         frozen: s % 2 == 1,
     };
     let r = with_mode(
@@ -300,11 +319,11 @@ fn report_mode(name: &[u8], mode: Mode) {
 
 // The places of all logical entries under one WRPTR.
 fn places(h: u64, code: u64, wrptr: u64) -> u64 {
-    let depth = machine::regs::depth(code);
+    let depth = machine::depths::depth(code);
     let mut next = h;
     let mut i: u64 = 0;
     while i < depth {
-        next = digest(next, machine::regs::physical(code, wrptr, i));
+        next = digest(next, machine::depths::physical(code, wrptr, i));
         i += 1;
     }
     next
@@ -312,7 +331,7 @@ fn places(h: u64, code: u64, wrptr: u64) -> u64 {
 
 // The same under all WRPTRs.
 fn all_places(code: u64) -> u64 {
-    let depth = machine::regs::depth(code);
+    let depth = machine::depths::depth(code);
     let mut next: u64 = 0;
     let mut wrptr: u64 = 0;
     while wrptr < depth {
@@ -325,7 +344,7 @@ fn all_places(code: u64) -> u64 {
 fn report_depth(code: u64) {
     let mut out = [0u8; 64];
     let mut at = text::put(&mut out, 0, b"  depth ");
-    at = text::put_decimal(&mut out, at, machine::regs::depth(code));
+    at = text::put_decimal(&mut out, at, machine::depths::depth(code));
     at = put_word(&mut out, at, b" 0x", all_places(code));
     io::write_all(STDOUT_FILENO, text::before(&out, at));
 }

@@ -1,5 +1,7 @@
--- Bits and fields of a number, in plain arithmetic, and what masks make of it.
+-- Bits and fields of a number, in plain arithmetic, what masks make of it, and whether it lies in a range.
 use Prim.Native.Nat.{ℕ, _-_, _/_, _%_, _^_}
+use mathlib.Core.Bool.{Bool, _&&_}
+use lib.Dec.{leb}
 use lib.Bits.{bitAnd, bitOr}
 
 -- bit n of x: 0 or 1
@@ -21,3 +23,7 @@ joined x y = bitOr x y
 -- the bits of x that are not in y, of 64-bit words: Rust's `x & !y`
 unfoldable pub without : ℕ → ℕ → ℕ
 without x y = bitAnd x (2 ^ 64 - 1 - y)
+
+-- a number from the first to the last
+abbrev pub isFromTo : ℕ → ℕ → ℕ → Bool
+isFromTo first last n = leb first n && leb n last

@@ -1,9 +1,9 @@
-// Bits, fields and masks of words: shifts and masks in the code, plain arithmetic in the contracts.
+// Bits, fields, masks and ranges of words: shifts and masks in the code, plain arithmetic in the contracts.
 // A position past the word reads 0, so no function asks anything of its arguments.
 ghost use mathlib.Core.Path.{_≡_};
 ghost use Prim.Native.Nat.{_+_, _*_, _/_, _%_, _^_};
 ghost use lib.Dec.{eqb};
-ghost use Rattle.bits.specs.Words.{bitAt, fieldAt, keep, joined, without};
+ghost use Rattle.bits.specs.Words.{bitAt, fieldAt, keep, joined, without, isFromTo};
 
 // Whether bit n of x is set.
 pub fn bit(x: u64, n: u32) -> bool
@@ -82,4 +82,11 @@ pub fn clear_bit0(x: u64) -> u64
     ensures { λ r. ⌜ r ≡ x / 2 * 2 ⌝ }
 {
     x & 0xFFFF_FFFF_FFFF_FFFE
+}
+
+// Whether a number lies from the first to the last.
+pub fn is_from_to(first: u64, last: u64, number: u64) -> bool
+    ensures { λ b. ⌜ b ≡ isFromTo first last number ⌝ }
+{
+    first <= number && number <= last
 }

@@ -39,10 +39,11 @@ pub record Refusals (r : Registers) (f : Facts) : Type 0 where
   pub missing : eqb (numberOf (refusalOf r f)) 3 ≡ isMissing r f
   pub no-other : numberOf (refusalOf r f) ≤ 3
 
--- the state enables are not asked of the select registers: S reaches both, and VS siselect, whatever they are
+-- the number of an access to a select register
 abbrev number : Registers → View → ℕ
 number r v = numberOf (refusalOf r (factsOf r (Select v)))
 
+-- the state enables are not asked of the select registers: S reaches both, and VS siselect, whatever they are
 pub record Selects (r : Registers) : Type 0 where
   pub from-S : r .mode ≡ S → (number r Supervisor ≡ 0) × (number r Guest ≡ 0)
   pub from-VS : r .mode ≡ VS → (number r Supervisor ≡ 0) × (number r Guest ≡ 2)

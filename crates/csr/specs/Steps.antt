@@ -2,12 +2,13 @@
 use Prim.Native.Nat.{ℕ}
 use mathlib.Core.Bool.{Bool, true, false, not, _&&_, _||_}
 use Rattle.bits.specs.Choice.{if_then_else_}
+use Rattle.bits.specs.Words.{isFromTo}
 use Rattle.machine.specs.Modes.{isU, isM, isVU, isVS}
 use Rattle.machine.specs.declared.Registers.{Registers}
 use Rattle.machine.specs.declared.Selects.{Selects}
 use Rattle.machine.specs.declared.Verdict.{Verdict}
 use Rattle.machine.specs.declared.Verdict.the-variants.{Accepted, IllegalInstruction, VirtualInstruction, NoSuchRegister}
-use Rattle.csr.specs.Numbers.{inRange, viewIn}
+use Rattle.csr.specs.Numbers.{viewIn}
 use Rattle.csr.specs.declared.View.{View}
 use Rattle.csr.specs.declared.View.the-variants.{Machine, Supervisor, Guest}
 use Rattle.csr.specs.declared.Csr.{Csr}
@@ -31,7 +32,7 @@ selectionOf s Unlisted = 0
 
 -- the window of selections that reach entries
 unfoldable pub inWindow : ℕ → Bool
-inWindow s = inRange 0x200 0x2FF s
+inWindow s = isFromTo 0x200 0x2FF s
 
 abbrev pub isMachine : View → Bool
 isMachine Machine = true

@@ -2,7 +2,7 @@
 ghost use mathlib.Core.Path.{_≡_};
 ghost use Rattle.bits.specs.Choice.{if_then_else_};
 ghost use Rattle.machine.specs.Modes.{isVirtual};
-ghost use Rattle.csr.specs.Numbers.{supervisorRegister, guestRegister, registerOf, viewIn, meantOf};
+ghost use Rattle.csr.specs.Numbers.{supervisorRegister, guestRegister, registerOf, viewIn, csrIn};
 use crate::Csr;
 use crate::View;
 use machine::Mode;
@@ -68,8 +68,8 @@ pub fn view_in(m: Mode, v: View) -> View
 }
 
 // What a register means in a mode.
-pub fn meant(m: Mode, g: Csr) -> Csr
-    ensures { λ q. ⌜ q ≡ meantOf m g ⌝ }
+pub fn csr_in(m: Mode, g: Csr) -> Csr
+    ensures { λ q. ⌜ q ≡ csrIn m g ⌝ }
 {
     match g {
         Csr::Control(v) => Csr::Control(view_in(m, v)),

@@ -44,7 +44,7 @@ pub fn selection(s: Selects, g: Csr) -> u64
 fn in_window(s: u64) -> bool
     ensures { λ b. ⌜ b ≡ inWindow s ⌝ }
 {
-    0x200 <= s && s <= 0x2FF
+    bits::is_from_to(0x200, 0x2FF, s)
 }
 
 fn is_machine(v: View) -> bool
@@ -228,7 +228,7 @@ fn first_step(one: bool, two: bool, three: bool, four: bool, five: bool, six: bo
     }
 }
 
-// What the access steps say: the first that applies.
+// What the access steps say: the first that applies. Number 5 is the caller's to look for.
 pub fn refusal(r: Registers, f: Facts) -> Verdict
     ensures { λ v. ⌜ v ≡ refusalOf r f ⌝ }
 {

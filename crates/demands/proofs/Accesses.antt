@@ -9,11 +9,12 @@ use lib.Dec.{ltb}
 use borrow.Author.Tests.{ne-eqb, ltb-true, le-ltb}
 use Rattle.bits.specs.Choice.{if_then_else_}
 use Rattle.bits.specs.Words.{joined, without}
-use Rattle.machine.specs.Answers.{numberOf, isAccepted, refused, answered, answeredClear}
+use Rattle.machine.specs.Answers.{numberOf, isAccepted, refused, accepted, acceptedClear}
 use Rattle.machine.specs.Entries.{definedOf}
 use Rattle.machine.specs.Modes.{isVirtual}
 use Rattle.machine.specs.Regs as Regs
-use Rattle.machine.specs.Regs.{physicalOf, goodOf}
+use Rattle.machine.specs.Depths.{physicalOf}
+use Rattle.machine.specs.Good.{goodOf}
 use Rattle.machine.specs.declared.CsrAccess.{CsrAccess}
 use Rattle.machine.specs.declared.Decision.{Decision}
 use Rattle.machine.specs.declared.Effect.{Effect}
@@ -28,8 +29,8 @@ use Rattle.machine.specs.declared.Operation.the-variants.{Read, Write, Set, Cle
 use Rattle.machine.specs.declared.Registers.{Registers}
 use Rattle.machine.specs.declared.Verdict.{Verdict}
 use Rattle.machine.specs.declared.Verdict.the-variants.{Accepted, IllegalInstruction, VirtualInstruction, NoSuchRegister, ChangeNotPossible, BadState}
-use Rattle.machine.proofs.Depths.{depth-le}
-use Rattle.csr.specs.Numbers.{registerOf, viewIn, meantOf}
+use Rattle.machine.proofs.DepthLaws.{depth-le}
+use Rattle.csr.specs.Numbers.{registerOf, viewIn, csrIn}
 use Rattle.csr.specs.Steps.{selectOf, selectionOf, factsOf, sctrclrFacts, refusalOf}
 use Rattle.csr.specs.declared.Csr.{Csr}
 use Rattle.csr.specs.declared.Csr.the-variants.{Control, Select, Ireg, Depth, Status, Unlisted}
@@ -54,21 +55,21 @@ use Rattle.demands.proofs.Steps.{window, selected-is, granted-reach}
 use Rattle.demands.proofs.Tests.{depth-is, physical-is}
 
 -- a verdict that accepts has number 0, and no other has
-accepted : (v : Verdict) → isAccepted v ≡ true → numberOf v ≡ 0
-accepted Accepted h = refl
-accepted IllegalInstruction h = absurd (false≢true h)
-accepted VirtualInstruction h = absurd (false≢true h)
-accepted NoSuchRegister h = absurd (false≢true h)
-accepted ChangeNotPossible h = absurd (false≢true h)
-accepted BadState h = absurd (false≢true h)
+accepts : (v : Verdict) → isAccepted v ≡ true → numberOf v ≡ 0
+accepts Accepted h = refl
+accepts IllegalInstruction h = absurd (false≢true h)
+accepts VirtualInstruction h = absurd (false≢true h)
+accepts NoSuchRegister h = absurd (false≢true h)
+accepts ChangeNotPossible h = absurd (false≢true h)
+accepts BadState h = absurd (false≢true h)
 
-not-accepted : (v : Verdict) → isAccepted v ≡ false → numberOf v ≡ 0 → ⊥
-not-accepted Accepted h z = false≢true (sym h)
-not-accepted IllegalInstruction h z = omega (arith, z)
-not-accepted VirtualInstruction h z = omega (arith, z)
-not-accepted NoSuchRegister h z = omega (arith, z)
-not-accepted ChangeNotPossible h z = omega (arith, z)
-not-accepted BadState h z = omega (arith, z)
+accepts-not : (v : Verdict) → isAccepted v ≡ false → numberOf v ≡ 0 → ⊥
+accepts-not Accepted h z = false≢true (sym h)
+accepts-not IllegalInstruction h z = omega (arith, z)
+accepts-not VirtualInstruction h z = omega (arith, z)
+accepts-not NoSuchRegister h z = omega (arith, z)
+accepts-not ChangeNotPossible h z = omega (arith, z)
+accepts-not BadState h z = omega (arith, z)
 
 -- a granted access is what the definition grants
 module _ (s : State) (a : CsrAccess) where
@@ -76,10 +77,10 @@ module _ (s : State) (a : CsrAccess) where
   r = s .registers
 
   abbrev at : ℕ
-  at = Accesses.focusOf r (a .number)
+  at = Accesses.accessFocus r (a .number)
 
   abbrev g : Csr
-  g = meantOf (r .mode) (registerOf (a .number))
+  g = csrIn (r .mode) (registerOf (a .number))
 
   abbrev granted : Decision
   granted = grantedOf r (entryAt (entriesIn s) at) g (a .operation) (a .operand)
@@ -101,8 +102,8 @@ module _ (s : State) (a : CsrAccess) where
           → (goodOf r ≡ true) × (numberOf k ≡ 0) × (d b c .value ≡ granted .value)
           × (stateOf (d b c .registers) (appliedOf (entriesIn s) (d b c .effect) at)
           ≡ stateOf (granted .registers) (appliedOf (entriesIn s) (granted .effect) at))
-      go true f true e h = (f, accepted k e, refl, refl)
-      go true f false e h = absurd (not-accepted k e h)
+      go true f true e h = (f, accepts k e, refl, refl)
+      go true f false e h = absurd (accepts-not k e h)
       go false f c e h = absurd (omega (arith, h))
 
 -- whatever is written, the answer is the old reading
@@ -205,8 +206,8 @@ module _ (s : State) where
   ireg-reading v k w = rw (selected-is b v) (entry-reading s (selected b v) w k)
 
   reading-is : (g : Csr) → b .buffer .wrptr < 256 → (b .mode ≡ VU → ⊥) → (Outside b g → ⊥)
-      → readingOf b (old (meantOf (b .mode) g)) (meantOf (b .mode) g) ≡ reading s g
-  unfolding meantOf viewIn readingOf controlReading statusOf
+      → readingOf b (old (csrIn (b .mode) g)) (csrIn (b .mode) g) ≡ reading s g
+  unfolding csrIn viewIn readingOf controlReading statusOf
   reading-is (Control Machine) l n o = refl
   reading-is (Control Supervisor) l n o = sctrctl-reading (b .mode) n
   reading-is (Control Guest) l n o = refl
@@ -246,8 +247,8 @@ module _ (s : State) where
       stateOf b (appliedOf (entriesIn s) (entryWritten (b .buffer) (selectOf (b .selects) w) (old (Ireg w k)) k x) p)) ≡ putAt s (selected b v) k x
   ireg-written v k x w = rw (selected-is b v) (entry-written s (selected b v) w k x)
 
-  put-is : (g : Csr) (x : ℕ) → (b .mode ≡ VU → ⊥) → (Outside b g → ⊥) → ends (meantOf (b .mode) g) x ≡ put s g x
-  unfolding meantOf viewIn registersWritten effectWritten controlWritten selectWritten depthWritten statusWritten appliedOf
+  put-is : (g : Csr) (x : ℕ) → (b .mode ≡ VU → ⊥) → (Outside b g → ⊥) → ends (csrIn (b .mode) g) x ≡ put s g x
+  unfolding csrIn viewIn registersWritten effectWritten controlWritten selectWritten depthWritten statusWritten appliedOf
   put-is (Control Machine) x n o = refl
   put-is (Control Supervisor) x n o = ap (λ (r : Registers). stateOf r (entriesIn s)) (sctrctl-written (b .mode) x n)
   put-is (Control Guest) x n o = refl
@@ -260,7 +261,7 @@ module _ (s : State) where
   put-is Unlisted x n o = refl
 
   written-is : (g : Csr) (o : Operation) (x : ℕ) → b .buffer .wrptr < 256 → (b .mode ≡ VU → ⊥) → (Outside b g → ⊥)
-      → (let m = meantOf (b .mode) g in
+      → (let m = csrIn (b .mode) g in
       let d = grantedOf b (old m) m o x in
       stateOf (d .registers)
       (appliedOf (entriesIn s) (d .effect) (physicalOf (b .buffer .code) (b .buffer .wrptr) (selectionOf (b .selects) m % 256))))
@@ -276,7 +277,7 @@ pointer-lt r f = omega (arith, f .pointer, depth-is (r .buffer .code), depth-le 
 
 -- a granted access reaches the register of its number, answers its reading and leaves it written
 pub access-done : (s : State) (a : CsrAccess) → stepOf s (Access a) .number ≡ 0 → GrantedAt s a (stepOf s (Access a))
-unfolding Accesses.focusOf
+unfolding Accesses.accessFocus
 access-done s a h =
     let p = access-granted s a h in
     let r = s .registers in
@@ -299,12 +300,12 @@ clear-done s = go (goodOf (s .registers)) (isAccepted v) refl
     v = refusalOf (s .registers) sctrclrFacts
 
     d : Bool → Bool → Decision
-    d b c = if b then (if c then answeredClear (s .registers) else refused (s .registers) v) else refused (s .registers) BadState
+    d b c = if b then (if c then acceptedClear (s .registers) else refused (s .registers) v) else refused (s .registers) BadState
 
     go : (b c : Bool) → isAccepted v ≡ c → d b c .number ≡ 0
         → (d b c .value ≡ 0) × (stateOf (d b c .registers) (appliedOf (entriesIn s) (d b c .effect) (focusIn s Sctrclr)) ≡ withZeros s)
     go true true e h = (refl, refl)
-    go true false e h = absurd (not-accepted v e h)
+    go true false e h = absurd (accepts-not v e h)
     go false c e h = absurd (omega (arith, h))
 
 pub host-done : (s : State) (h : Enables) → stepOf s (Host h) .number ≡ 0
@@ -313,7 +314,7 @@ unfolding stepOf decidedOf focusIn decideOf eventOf focusOf hostOf appliedOf
 host-done s h = go (goodOf (s .registers))
   where
     d : Bool → Decision
-    d b = if b then answered (Regs.withEnables (s .registers) h) 0 else refused (s .registers) BadState
+    d b = if b then accepted (Regs.withEnables (s .registers) h) 0 else refused (s .registers) BadState
 
     go : (b : Bool) → d b .number ≡ 0
         → (d b .value ≡ 0) × (stateOf (d b .registers) (appliedOf (entriesIn s) (d b .effect) (focusIn s (Host h))) ≡ withEnables h s)

@@ -30,7 +30,7 @@ use Rattle.demands.specs.Registers.{Reaches, selected, physical, changed
 use Rattle.demands.specs.Steps.{Asked, Window, Outside, Step1, Step2, Step3, Step4, Step5, Step6}
 use Rattle.demands.specs.Transfers.{recordOf, withoutV, withRecord, withPop, withSwap, withFreeze, withMove}
 use Rattle.demands.specs.Demands.{NotRefused, TransferAt, GrantedAt, Demand1At, Demand2At}
-use Rattle.demands.specs.Changes.{Writes, Selects, Cause, Accounted}
+use Rattle.demands.specs.Changes.{Writes, SelectsEntry, Cause, Accounted}
 use Rattle.demands.proofs.Decides.{holds}
 use Rattle.demands.proofs.Determined.{Upto4, upto4}
 use Rattle.demands.proofs.Determined.Upto4.{is-0, is-1, is-2, is-3, is-4}
@@ -114,7 +114,7 @@ module _ (s : State) (v : View) (i : ℕ) (w : Window (selected (s .registers) v
   abbrev selection : ℕ
   selection = selected (s .registers) v
 
-  changed : (k : ℕ) → k < 3 → (f : Entry → Entry) → Same s (changedAt s selection f) i ⊎ Selects (s .registers) (Ireg v k) i
+  changed : (k : ℕ) → k < 3 → (f : Entry → Entry) → Same s (changedAt s selection f) i ⊎ SelectsEntry (s .registers) (Ireg v k) i
   changed k l f = go (ltb j d) refl
     where
       j : ℕ
@@ -123,23 +123,23 @@ module _ (s : State) (v : View) (i : ℕ) (w : Window (selected (s .registers) v
       d : ℕ
       d = depth (s .registers .buffer .code)
 
-      chosen : ltb j d ≡ true → i ≡ physical (s .registers) j → Selects (s .registers) (Ireg v k) i
-      chosen h e = subst (Selects (s .registers) (Ireg v k)) (sym e) (Selects.ireg l (omega (arith, w .from)) (ltb-true j d h))
+      chosen : ltb j d ≡ true → i ≡ physical (s .registers) j → SelectsEntry (s .registers) (Ireg v k) i
+      chosen h e = subst (SelectsEntry (s .registers) (Ireg v k)) (sym e) (SelectsEntry.ireg l (omega (arith, w .from)) (ltb-true j d h))
 
       go : (b : Bool) → ltb j d ≡ b
           → (let p = physical (s .registers) j in
           Same s (if b then stateOf (s .registers) (withEntry (entriesIn s) p (f (entryAt (entriesIn s) p))) else s) i)
-          ⊎ Selects (s .registers) (Ireg v k) i
+          ⊎ SelectsEntry (s .registers) (Ireg v k) i
       go true h = put-at s (s .registers) (physical (s .registers) j) i _ (chosen h)
       go false h = inl refl
 
-  word-changes : (k x : ℕ) → Same s (putAt s selection k x) i ⊎ Selects (s .registers) (Ireg v k) i
+  word-changes : (k x : ℕ) → Same s (putAt s selection k x) i ⊎ SelectsEntry (s .registers) (Ireg v k) i
   word-changes zero x = changed 0 (omega arith) (ctrsourceTo x)
   word-changes (suc zero) x = changed 1 (omega arith) (ctrtargetTo x)
   word-changes (suc (suc zero)) x = changed 2 (omega arith) (ctrdataTo x)
   word-changes (suc (suc (suc k))) x = inl refl
 
-put-changes : (s : State) (g : Csr) (x i : ℕ) → (Outside (s .registers) g → ⊥) → Same s (put s g x) i ⊎ Selects (s .registers) g i
+put-changes : (s : State) (g : Csr) (x i : ℕ) → (Outside (s .registers) g → ⊥) → Same s (put s g x) i ⊎ SelectsEntry (s .registers) g i
 put-changes s (Control Machine) x i o = inl refl
 put-changes s (Control Supervisor) x i o = inl refl
 put-changes s (Control Guest) x i o = inl refl

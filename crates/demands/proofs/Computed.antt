@@ -8,7 +8,8 @@ use Rattle.machine.specs.Controls as Controls
 use Rattle.machine.specs.Entries as EntryBits
 use Rattle.machine.specs.Modes as Modes
 use Rattle.qualifying.specs.Filters as Filters
-use Rattle.machine.specs.Regs as Regs
+use Rattle.machine.specs.Depths as Depths
+use Rattle.machine.specs.Good as Good
 use Rattle.machine.specs.declared.Mode.the-variants.{M}
 use Rattle.csr.specs.Numbers as Numbers
 use Rattle.csr.specs.Steps as AccessSteps
@@ -23,6 +24,7 @@ use Rattle.recorder.specs.Decisions as Decisions
 use Rattle.recorder.specs.Entries as Entries
 use Rattle.recorder.specs.Steps as Steps
 use Rattle.recorder.specs.Steps.{stateOf, stepOf, resetState}
+use Rattle.machine.specs.declared.RetiredWord.{RetiredWord}
 use Rattle.machine.specs.declared.Event.{Event}
 use Rattle.machine.specs.declared.Event.the-variants.{Retired, Host}
 use Rattle.recorder.specs.declared.State.{State}
@@ -44,8 +46,11 @@ fresh =
     })
     zeros
 
+abbrev pub word : RetiredWord
+word = record { word = 0x000000EF; pc = 0x1000; target = 0x2000; taken = false }
+
 abbrev pub call : Event
-call = Retired (record { word = 0x000000EF; pc = 0x1000; target = 0x2000; taken = false })
+call = Retired word
 
 -- the host's event
 abbrev pub host : Event
@@ -64,9 +69,9 @@ Shown =
     × (stepOf resetState host .number ≡ 0)
 
 pub computed : BenchTable × Shown
-unfolding Words.keep Words.joined Classifier.transferOf Controls.isSet EntryBits.definedOf Modes.controlOf Modes.onOf Modes.governingOf Filters.freezesOf Filters.externalToS Filters.externalToM Filters.externalOf Filters.inhibitBit Filters.inhibitedOf Regs.depthOf Regs.physicalOf Regs.goodBuffer Regs.goodControls Regs.goodOf Numbers.registerOf Numbers.supervisorRegister Numbers.guestRegister Numbers.viewIn Numbers.meantOf AccessSteps.firstStep AccessSteps.inWindow AccessSteps.refusalOf AccessSteps.step2 AccessSteps.step3 AccessSteps.step5 AccessSteps.factsOf Readings.controlReading Readings.entryReading Readings.isEntry Readings.readingOf Readings.statusOf Readings.storedOf Readings.wordOf Writes.controlWritten Writes.selectWritten Writes.depthWritten Writes.statusWritten Writes.registersWritten Writes.withStored Writes.withWord Writes.entryWritten Writes.effectWritten Accesses.operandOf Accesses.writeOf Accesses.operatedOf Accesses.grantedOf Accesses.accessTo Accesses.accessOf Accesses.focusOf Accesses.hostOf Records.entryFor Records.sidePc Records.popped Records.advanced Records.retreated Outcomes.rasemuOf Outcomes.onOutcome Outcomes.retiredOutcome Outcomes.trapBy Outcomes.trapOutcome Outcomes.returnBy Outcomes.returnOutcome Transfers.focusOf Transfers.doneOf Transfers.retiredOf Transfers.crossing Transfers.takenTrap Transfers.trapOf Transfers.takenReturn Transfers.returnOf Events.transferIn Events.retiredFocus Events.focusOf Decisions.eventOf Decisions.decideOf Entries.appliedOf Steps.focusIn Steps.decidedOf Steps.stepOf Steps.resetState Runs.answersTo Runs.endOf Bench.noneRefused Useless.allZero
+unfolding Words.keep Words.joined Classifier.transferOf Controls.isSet EntryBits.definedOf Modes.controlOf Modes.onOf Modes.governingOf Filters.freezesOf Filters.externalToS Filters.externalToM Filters.externalOf Filters.inhibitBit Filters.inhibitedOf Depths.depthOf Depths.physicalOf Good.goodBuffer Good.goodControls Good.goodOf Numbers.registerOf Numbers.supervisorRegister Numbers.guestRegister Numbers.viewIn Numbers.csrIn AccessSteps.firstStep AccessSteps.inWindow AccessSteps.refusalOf AccessSteps.step2 AccessSteps.step3 AccessSteps.step5 AccessSteps.factsOf Readings.controlReading Readings.entryReading Readings.isEntry Readings.readingOf Readings.statusOf Readings.storedOf Readings.wordOf Writes.controlWritten Writes.selectWritten Writes.depthWritten Writes.statusWritten Writes.registersWritten Writes.withStored Writes.withWord Writes.entryWritten Writes.effectWritten Accesses.operandOf Accesses.writeOf Accesses.operatedOf Accesses.grantedOf Accesses.accessTo Accesses.accessOf Accesses.accessFocus Accesses.hostOf Records.entryFor Records.sidePc Records.popped Records.advanced Records.retreated Outcomes.rasemuOf Outcomes.onOutcome Outcomes.retiredOutcome Outcomes.trapBy Outcomes.trapOutcome Outcomes.returnBy Outcomes.returnOutcome Transfers.outcomeFocus Transfers.doneOf Transfers.retiredOf Transfers.crossing Transfers.takenTrap Transfers.trapOf Transfers.takenReturn Transfers.returnOf Events.transferIn Events.retiredFocus Events.focusOf Decisions.eventOf Decisions.decideOf Entries.appliedOf Steps.focusIn Steps.decidedOf Steps.stepOf Steps.resetState Runs.answersTo Runs.endOf Bench.noneRefused Useless.allZero
 computed = (
-  (vectors, ((refl, refl, refl), refl), ((refl, refl, refl), refl), (refl, refl, refl), refl, ((refl, refl, refl), refl), refl, (refl, refl, refl), refl, refl, ((refl, refl, refl), refl), ((refl, refl, refl), refl), ((refl, refl, refl), refl), ((refl, refl, refl), refl), (refl, refl, refl), refl, (refl, refl, refl), refl, (refl, refl, refl), refl, refl, refl, (refl, refl, refl), refl, refl),
+  (vectors, ((refl, refl, refl), refl), ((refl, refl, refl), refl), (refl, refl, refl), refl, ((refl, refl, refl), refl), refl, (refl, refl, refl), refl, refl, ((refl, refl, refl), refl), ((refl, refl, refl), refl), ((refl, refl, refl), refl), ((refl, refl, refl), refl), (refl, refl, refl), refl, refl, (refl, refl, refl), refl, (refl, refl, refl), refl, refl, refl, (refl, refl, refl), refl, refl),
   (refl, refl, refl, refl),
 )
 

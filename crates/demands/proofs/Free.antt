@@ -7,8 +7,9 @@ use native.Mathlib.Omega.{arith}
 use borrow.Author.Tests.{leb-true, ltb-true, eqb-true, le-leb, lt-ltb, eq-eqb}
 use Rattle.bits.specs.Words.{bitAt, keep}
 use Rattle.bits.proofs.Laws.{bit-keep, same-bits}
-use Rattle.machine.specs.Regs.{depthOf, goodOf}
-use Rattle.machine.proofs.Good.{parts, whole}
+use Rattle.machine.specs.Depths.{depthOf}
+use Rattle.machine.specs.Good.{goodOf}
+use Rattle.machine.proofs.GoodLaws.{parts, whole}
 use Rattle.machine.specs.declared.Registers.{Registers}
 use Rattle.demands.specs.States.{Within, Free}
 use Rattle.demands.proofs.Decides.{Decides}

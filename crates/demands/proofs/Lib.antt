@@ -7,6 +7,7 @@ pub mod First
 pub mod Steps
 pub mod Numbers
 pub mod Outcomes
+pub mod Does
 pub mod Transfers
 pub mod Accesses
 pub mod Determined
@@ -14,5 +15,6 @@ pub mod Demands
 pub mod Demand3
 pub mod Changes
 pub mod Computed
+pub mod Parts
 pub mod Useless
 pub mod CodeRuns

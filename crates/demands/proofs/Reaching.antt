@@ -7,7 +7,8 @@ use native.Mathlib.Omega.{arith}
 use lib.Dec.{eqb, leb}
 use borrow.Author.Tests.{eqb-true, leb-true}
 use Rattle.bits.specs.Choice.{if_then_else_}
-use Rattle.csr.specs.Numbers.{inRange, supervisorRegister, guestRegister, registerOf}
+use Rattle.bits.specs.Words.{isFromTo}
+use Rattle.csr.specs.Numbers.{supervisorRegister, guestRegister, registerOf}
 use Rattle.csr.specs.declared.Csr.{Csr}
 use Rattle.csr.specs.declared.Csr.the-variants.{Control, Select, Ireg, Depth, Status, Unlisted}
 use Rattle.csr.specs.declared.View.the-variants.{Machine, Supervisor, Guest}
@@ -58,7 +59,7 @@ at-key : (n k : ℕ) (g : Csr) → eqb n k ≡ true → Reaches k g → Found n 
 at-key n k g h p = inr (subst (λ (j : ℕ). Reaches j g) (sym (eqb-true n k h)) p)
 
 -- three numbers in a row, the first of them j above a base
-in-row : (first base j n : ℕ) (g : ℕ → Csr) → first ≡ base + j → inRange first (first + 2) n ≡ true
+in-row : (first base j n : ℕ) (g : ℕ → Csr) → first ≡ base + j → isFromTo first (first + 2) n ≡ true
     → Reaches first (g j) → Reaches (first + 1) (g (j + 1)) → Reaches (first + 2) (g (j + 2)) → Found n (g (n - base))
 in-row first base j n g f h a b c = go (n - first) (omega (arith, l, u)) (omega (arith, l, u))
   where
@@ -86,10 +87,10 @@ module _ (n : ℕ) where
   supervisor : Found n (supervisorRegister n)
   unfolding supervisorRegister
   supervisor =
-      go (eqb n 0x14E) refl (eqb n 0x14F) refl (eqb n 0x150) refl (inRange 0x151 0x153 n) refl (inRange 0x155 0x157 n) refl (eqb n 0x15F) refl
+      go (eqb n 0x14E) refl (eqb n 0x14F) refl (eqb n 0x150) refl (isFromTo 0x151 0x153 n) refl (isFromTo 0x155 0x157 n) refl (eqb n 0x15F) refl
     where
       go : (a : Bool) → eqb n 0x14E ≡ a → (b : Bool) → eqb n 0x14F ≡ b → (c : Bool) → eqb n 0x150 ≡ c
-          → (d : Bool) → inRange 0x151 0x153 n ≡ d → (e : Bool) → inRange 0x155 0x157 n ≡ e → (f : Bool) → eqb n 0x15F ≡ f
+          → (d : Bool) → isFromTo 0x151 0x153 n ≡ d → (e : Bool) → isFromTo 0x155 0x157 n ≡ e → (f : Bool) → eqb n 0x15F ≡ f
           → Found n (if a then Control Supervisor else (if b then Status else (if c then Select Supervisor else (if d then Ireg Supervisor (n - 0x151)
           else (if e then Ireg Supervisor (n - 0x152) else (if f then Depth else Unlisted))))))
       go true p b q c r d s e t f u = at-key n 0x14E (Control Supervisor) p Reaches.sctrctl
@@ -102,10 +103,10 @@ module _ (n : ℕ) where
 
   guest : Found n (guestRegister n)
   unfolding guestRegister
-  guest = go (eqb n 0x24E) refl (eqb n 0x250) refl (inRange 0x251 0x253 n) refl (inRange 0x255 0x257 n) refl
+  guest = go (eqb n 0x24E) refl (eqb n 0x250) refl (isFromTo 0x251 0x253 n) refl (isFromTo 0x255 0x257 n) refl
     where
       go : (a : Bool) → eqb n 0x24E ≡ a → (b : Bool) → eqb n 0x250 ≡ b
-          → (d : Bool) → inRange 0x251 0x253 n ≡ d → (e : Bool) → inRange 0x255 0x257 n ≡ e
+          → (d : Bool) → isFromTo 0x251 0x253 n ≡ d → (e : Bool) → isFromTo 0x255 0x257 n ≡ e
           → Found n (if a then Control Guest else (if b then Select Guest else (if d then Ireg Guest (n - 0x251)
           else (if e then Ireg Guest (n - 0x252) else Unlisted))))
       go true p b q d s e t = at-key n 0x24E (Control Guest) p Reaches.vsctrctl
@@ -116,7 +117,7 @@ module _ (n : ℕ) where
 
   pub reached : Found n (registerOf n)
   unfolding registerOf
-  reached = go (inRange 0 0x1FF n) (inRange 0x200 0x2FF n) (eqb n 0x34E) refl
+  reached = go (isFromTo 0 0x1FF n) (isFromTo 0x200 0x2FF n) (eqb n 0x34E) refl
     where
       go : (a b c : Bool) → eqb n 0x34E ≡ c
           → Found n (if a then supervisorRegister n else (if b then guestRegister n else (if c then Control Machine else Unlisted)))

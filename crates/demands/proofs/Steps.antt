@@ -21,7 +21,7 @@ use Rattle.csr.specs.declared.View.the-variants.{Machine, Supervisor, Guest}
 use Rattle.machine.specs.declared.Event.{Event}
 use Rattle.machine.specs.declared.Event.the-variants.{Retired, Trap, TrapReturn, Access, Sctrclr, Host}
 use Rattle.demands.specs.Registers.{Reaches, siselectIn, selected}
-use Rattle.demands.specs.Steps.{Asked, Window, Gated, Listed, Barred, Outside, Step1, Step2, Step3, Step4, Step5, Step6, Illegal, Virtual, Missing}
+use Rattle.demands.specs.Steps.{Asked, Window, Gated, OfStep3, Barred, Outside, Step1, Step2, Step3, Step4, Step5, Step6, Illegal, Virtual, Missing}
 use Rattle.demands.proofs.Decides.{Decides, via, either, pair, negated, clear, never}
 use Rattle.demands.proofs.First.{First, first, numbers}
 use Rattle.demands.proofs.Reaching.{isThere, reaches-is, reached, reach, passes}
@@ -193,12 +193,12 @@ module _ (r : Registers) where
 
 -- the steps of an access
 module _ (r : Registers) (n : ℕ) where
-  listed : Decides (Listed r (Asked.number n)) (gate r (registerOf n))
+  listed : Decides (OfStep3 r (Asked.number n)) (gate r (registerOf n))
   unfolding gate factsOf
-  listed = record { to = to-gate; from = (λ h. Listed.register (reach n (gate r) refl h) (of-gated r (registerOf n) h)) }
+  listed = record { to = to-gate; from = (λ h. OfStep3.register (reach n (gate r) refl h) (of-gated r (registerOf n) h)) }
     where
-      to-gate : Listed r (Asked.number n) → gate r (registerOf n) ≡ true
-      to-gate (Listed.register p q) = passes n (gate r) p (gated-of r q)
+      to-gate : OfStep3 r (Asked.number n) → gate r (registerOf n) ≡ true
+      to-gate (OfStep3.register p q) = passes n (gate r) p (gated-of r q)
 
   access-1 : Decides (Step1 r (Asked.number n)) (unlisted r (registerOf n))
   unfolding unlisted factsOf
@@ -248,13 +248,13 @@ module _ (r : Registers) (n : ℕ) where
       }
 
 -- steps 3, 4 and 5, by whether the target is listed, and barred by its number
-module _ (r : Registers) (a : Asked) (listed? barred? : Bool) (l : Decides (Listed r a) listed?) where
+module _ (r : Registers) (a : Asked) (listed? barred? : Bool) (l : Decides (OfStep3 r a) listed?) where
   any-3 : Decides (Step3 r a) (not (isM (r .mode)) && (not (r .enables .mstateen0) && listed?))
   any-3 =
       via (λ p. Step3.gated (p .0) (p .1 .0) (p .1 .1)) parts
       (pair (not (isM (r .mode))) _ (negated (isM (r .mode)) (in-M (r .mode))) (pair (not (r .enables .mstateen0)) _ (clear (r .enables .mstateen0)) l))
     where
-      parts : Step3 r a → (r .mode ≡ M → ⊥) × ((r .enables .mstateen0 ≡ false) × Listed r a)
+      parts : Step3 r a → (r .mode ≡ M → ⊥) × ((r .enables .mstateen0 ≡ false) × OfStep3 r a)
       parts (Step3.gated m s p) = (m, (s, p))
 
   any-4 : Decides (Step4 r a) (isVU (r .mode))
@@ -264,8 +264,8 @@ module _ (r : Registers) (a : Asked) (listed? barred? : Bool) (l : Decides (List
       parts (Step4.from-VU e) = e
 
   -- step 5, given what it is by the number itself
-  any-5 : (H : Type 0) → Decides H barred? → ((r .mode ≡ VS) × (H ⊎ ((r .enables .hstateen0 ≡ false) × Listed r a)) → Step5 r a)
-      → (Step5 r a → (r .mode ≡ VS) × (H ⊎ ((r .enables .hstateen0 ≡ false) × Listed r a)))
+  any-5 : (H : Type 0) → Decides H barred? → ((r .mode ≡ VS) × (H ⊎ ((r .enables .hstateen0 ≡ false) × OfStep3 r a)) → Step5 r a)
+      → (Step5 r a → (r .mode ≡ VS) × (H ⊎ ((r .enables .hstateen0 ≡ false) × OfStep3 r a)))
       → Decides (Step5 r a) (isVS (r .mode) && (barred? || (not (r .enables .hstateen0) && listed?)))
   any-5 H d f g =
       via f g
@@ -276,7 +276,7 @@ FirstOf r a k = First (Step1 r a) (Step2 r a) (Step3 r a) (Step4 r a) (Step5 r a
 
 -- the two parts of step 5
 abbrev Sum : Registers → ℕ → Type 0
-Sum r n = (r .mode ≡ VS) × (((g : Csr) × Reaches n g × Barred g) ⊎ ((r .enables .hstateen0 ≡ false) × Listed r (Asked.number n)))
+Sum r n = (r .mode ≡ VS) × (((g : Csr) × Reaches n g × Barred g) ⊎ ((r .enables .hstateen0 ≡ false) × OfStep3 r (Asked.number n)))
 
 first-access : (r : Registers) (n : ℕ) → FirstOf r (Asked.number n) (numberOf (refusalOf r (factsOf r (registerOf n))))
 unfolding refusalOf step3 step5 unlisted barred gate out
@@ -315,8 +315,8 @@ first-clear r =
     (any-5 r Asked.sctrclr true false yes ⊥ (never (λ z. z)) from-5 to-5)
     (never of-6)
   where
-    yes : Decides (Listed r Asked.sctrclr) true
-    yes = record { to = (λ p. refl); from = (λ h. Listed.clear) }
+    yes : Decides (OfStep3 r Asked.sctrclr) true
+    yes = record { to = (λ p. refl); from = (λ h. OfStep3.clear) }
 
     from-2 : (r .mode ≡ U) ⊎ ⊥ → Step2 r Asked.sctrclr
     from-2 x = ⊎-elim (λ u. Step2.from-U u) (λ z. absurd z) x
@@ -324,10 +324,10 @@ first-clear r =
     to-2 : Step2 r Asked.sctrclr → (r .mode ≡ U) ⊎ ⊥
     to-2 (Step2.from-U u) = inl u
 
-    from-5 : (r .mode ≡ VS) × (⊥ ⊎ ((r .enables .hstateen0 ≡ false) × Listed r Asked.sctrclr)) → Step5 r Asked.sctrclr
+    from-5 : (r .mode ≡ VS) × (⊥ ⊎ ((r .enables .hstateen0 ≡ false) × OfStep3 r Asked.sctrclr)) → Step5 r Asked.sctrclr
     from-5 p = ⊎-elim (λ z. absurd z) (λ q. Step5.gated (p .0) (q .0) (q .1)) (p .1)
 
-    to-5 : Step5 r Asked.sctrclr → (r .mode ≡ VS) × (⊥ ⊎ ((r .enables .hstateen0 ≡ false) × Listed r Asked.sctrclr))
+    to-5 : Step5 r Asked.sctrclr → (r .mode ≡ VS) × (⊥ ⊎ ((r .enables .hstateen0 ≡ false) × OfStep3 r Asked.sctrclr))
     to-5 (Step5.gated v s p) = (v, inr (s, p))
 
 -- the number of the first step that applies, and 0 where none does; other events know no steps

@@ -14,7 +14,7 @@ use Rattle.classifier.specs.declared.Transfer.{Transfer}
 use Rattle.classifier.specs.declared.Transfer.the-variants.{None, Branch, IndirectCall, DirectCall, IndirectJump, DirectJump, CoroutineSwap, FunctionReturn, OtherIndirectJump, OtherDirectJump}
 use Rattle.machine.specs.Controls.{placeOf, controlWord, isSet}
 use Rattle.machine.specs.Modes.{controlOf, onOf, governingOf}
-use Rattle.machine.specs.Regs.{depthOf, physicalOf}
+use Rattle.machine.specs.Depths.{depthOf, physicalOf}
 use Rattle.machine.specs.declared.ControlBit.{ControlBit}
 use Rattle.machine.specs.declared.ControlBit.the-variants as Bit
 use Rattle.machine.specs.declared.ControlRegister.{ControlRegister}

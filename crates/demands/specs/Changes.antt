@@ -27,9 +27,9 @@ pub data Writes : Operation → Type 0 where
   set-bits : Writes Set
   clear-bits : Writes Clear
 
--- an entry register selects a physical entry: its word is one of the three, and its selection 0x200 + i, i below the depth
-pub data Selects (r : Registers) : Csr → ℕ → Type 0 where
-  ireg : {v : View} {k i : ℕ} → k < 3 → selected r v ≡ 0x200 + i → i < depth (r .buffer .code) → Selects r (Ireg v k) (physical r i)
+-- an ireg selects a physical entry: its word is one of the three, and its selection 0x200 + i, i below the depth
+pub data SelectsEntry (r : Registers) : Csr → ℕ → Type 0 where
+  ireg : {v : View} {k i : ℕ} → k < 3 → selected r v ≡ 0x200 + i → i < depth (r .buffer .code) → SelectsEntry r (Ireg v k) (physical r i)
 
 -- what may change physical entry i
 pub data Cause (r : Registers) (i : ℕ) : Event → Type 0 where
@@ -37,7 +37,7 @@ pub data Cause (r : Registers) (i : ℕ) : Event → Type 0 where
   popped : {e : Event} → Free r → Pops r e → i ≡ physical r 0 → Cause r i e
   swapped : {e : Event} → Free r → Swaps r e → i ≡ physical r 0 → Cause r i e
   written : {a : CsrAccess} {g : Csr}
-      → NotRefused r (Access a) → Writes (a .operation) → Reaches (a .number) g → Selects r g i → Cause r i (Access a)
+      → NotRefused r (Access a) → Writes (a .operation) → Reaches (a .number) g → SelectsEntry r g i → Cause r i (Access a)
   cleared : NotRefused r Sctrclr → Cause r i Sctrclr
 
 abbrev pub Accounted : Type 0

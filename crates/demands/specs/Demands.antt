@@ -93,7 +93,7 @@ pub record Demand2 (f : Recorder) : Type 0 where
   pub ireg : (s : State) (a : CsrAccess) (v : View) (k : ℕ) → Reaches (a .number) (Ireg v k) → f s (Access a) .number ≡ 0
       → Shows s (selected (s .registers) v) k (f s (Access a) .value)
   -- the type of a retired word is the number of its row in the table of words, by the classifier's promise
-  pub types : (word : ℕ) (taken : Bool) (n : ℕ) → wordType word taken ≡ n ↔ HasType word taken n
+  pub types : (w : ℕ) (taken : Bool) (n : ℕ) → wordType w taken ≡ n ↔ HasType w taken n
 
 -- the rules leave no choice: at every state, whole or not, and every event, two results that meet both demands are equal
 abbrev pub Determined : Type 0

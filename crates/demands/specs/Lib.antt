@@ -1,3 +1,4 @@
+pub mod Parts
 pub mod States
 pub mod Registers
 pub mod Steps

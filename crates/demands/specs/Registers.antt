@@ -44,14 +44,14 @@ pub data Reaches : ℕ → Csr → Type 0 where
   vsireg6 : Reaches 0x257 (Ireg Guest 5)
 
 -- sctrctl is a window on mctrctl without M and MTE; in VS it means vsctrctl
-abbrev window : Registers → ℕ
-window r = keep 0x0000FF3E00001983 (r .controls .mctrctl)
+abbrev sctrctlWindow : Registers → ℕ
+sctrctlWindow r = keep 0x0000FF3E00001983 (r .controls .mctrctl)
 
 abbrev pub sctrctlIn : Registers → Mode → ℕ
-sctrctlIn r U = window r
-sctrctlIn r S = window r
-sctrctlIn r M = window r
-sctrctlIn r VU = window r
+sctrctlIn r U = sctrctlWindow r
+sctrctlIn r S = sctrctlWindow r
+sctrctlIn r M = sctrctlWindow r
+sctrctlIn r VU = sctrctlWindow r
 sctrctlIn r VS = r .controls .vsctrctl
 
 -- a write through the window keeps M and MTE
@@ -90,7 +90,7 @@ selectedTo Machine x r = r
 selectedTo Supervisor x r = siselectToIn (r .mode) x r
 selectedTo Guest x r = vsiselectTo x r
 
--- logical entry i is physical entry (WRPTR - 1 - i) modulo depth
+-- logical entry i is physical entry (WRPTR - 1 - i) modulo depth, for i below the depth
 abbrev pub physical : Registers → ℕ → ℕ
 physical r i = (r .buffer .wrptr + depth (r .buffer .code) - 1 - i) % depth (r .buffer .code)
 

@@ -1,5 +1,6 @@
 -- State and events (docs/RULES.md, S), said from the papers by themselves: literal numbers and plain arithmetic, and no definition
--- that the code is proved against. The rules go on in Registers, Steps and Transfers.
+-- that the code is proved against but for what takes a state apart and puts it together (`Parts` says what that does) and the type
+-- of a word. The rules go on in Registers, Steps and Transfers.
 use Prim.Native.Nat.{ℕ, zero, suc, _≤_, _<_}
 use mathlib.Core.Path.{_≡_}
 use mathlib.Core.Bool.{Bool, false}
@@ -39,7 +40,7 @@ start =
     })
     zeros
 
--- depth codes 0..3 are 16, 32, 64, 128; every other is number 5
+-- depth codes 0..3 are 16, 32, 64, 128. 128 stands for every other code too; those are number 5, and nothing is said of them
 abbrev pub depth : ℕ → ℕ
 depth zero = 16
 depth (suc zero) = 32

@@ -32,9 +32,9 @@ pub data Gated (r : Registers) : Csr → Type 0 where
   ireg : {v : View} {k : ℕ} → Window (selected r v) → Gated r (Ireg v k)
 
 -- step 3's list: one of those registers, or SCTRCLR
-pub data Listed (r : Registers) : Asked → Type 0 where
-  register : {n : ℕ} {g : Csr} → Reaches n g → Gated r g → Listed r (number n)
-  clear : Listed r sctrclr
+pub data OfStep3 (r : Registers) : Asked → Type 0 where
+  register : {n : ℕ} {g : Csr} → Reaches n g → Gated r g → OfStep3 r (number n)
+  clear : OfStep3 r sctrclr
 
 -- the registers that VS may not reach, by the number itself
 pub data Barred : Csr → Type 0 where
@@ -58,7 +58,7 @@ pub data Step2 (r : Registers) : Asked → Type 0 where
 
 -- 3. below M, mstateen0.CTR is 0, and the target is of the list
 pub data Step3 (r : Registers) : Asked → Type 0 where
-  gated : {a : Asked} → (r .mode ≡ M → ⊥) → r .enables .mstateen0 ≡ false → Listed r a → Step3 r a
+  gated : {a : Asked} → (r .mode ≡ M → ⊥) → r .enables .mstateen0 ≡ false → OfStep3 r a → Step3 r a
 
 -- 4. from VU
 pub data Step4 (r : Registers) : Asked → Type 0 where
@@ -67,7 +67,7 @@ pub data Step4 (r : Registers) : Asked → Type 0 where
 -- 5. from VS, a register that it may not reach; or hstateen0.CTR is 0, and the target is of the list
 pub data Step5 (r : Registers) : Asked → Type 0 where
   by-number : {n : ℕ} {g : Csr} → r .mode ≡ VS → Reaches n g → Barred g → Step5 r (number n)
-  gated : {a : Asked} → r .mode ≡ VS → r .enables .hstateen0 ≡ false → Listed r a → Step5 r a
+  gated : {a : Asked} → r .mode ≡ VS → r .enables .hstateen0 ≡ false → OfStep3 r a → Step5 r a
 
 -- 6. an ireg whose selection is outside the window
 pub data Step6 (r : Registers) : Asked → Type 0 where

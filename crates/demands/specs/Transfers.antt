@@ -56,7 +56,7 @@ abbrev pub RASEMU : Registers → ℕ
 RASEMU r = bit r (ofSource r) Bit.RASEMU
 
 -- a trap that sets FROZEN: a breakpoint exception (cause 3) with BPFRZ, or a counter overflow interrupt (cause 13) with LCOFIFRZ;
--- read in mctrctl for traps to M or S, in vsctrctl for traps to VS. Nothing else is asked
+-- read in mctrctl for traps to M or S, in vsctrctl for traps to VS. Switches, RASEMU and FROZEN are not asked
 pub data Freezes (r : Registers) : Event → Type 0 where
   BPFRZ : {t : TrapTo}
       → Traps (r .mode) (t .mode) → t .interrupt ≡ false → t .cause ≡ 3 → IsSet r (control (t .mode)) Bit.BPFRZ → Freezes r (Trap t)
@@ -159,7 +159,7 @@ sideOf (suc on) pc = pc
 abbrev pub entryOf : ℕ → ℕ → ℕ → Entry
 entryOf pc target type = record { ctrsource = pc / 2 * 2 + 1; ctrtarget = target / 2 * 2; ctrdata = type }
 
--- what an event records, if it does; other events never do
+-- what an event records, or puts in place of logical entry 0, if it does; other events never do
 abbrev pub recordOf : Registers → Event → Entry
 recordOf r (Retired w) = entryOf (w .pc) (w .target) (typeOf w)
 recordOf r (Trap t) =

@@ -1,52 +1,48 @@
--- The five useless recorders, and the demand that each does not meet.
+-- The five useless recorders, and the demand that each does not meet. What makes one useless is said of retired words alone, where it
+-- can be: whatever else such a recorder does, right or wrong, it fails.
 use Prim.Native.Nat.{ℕ}
-use mathlib.Core.Bool.{Bool, true, _&&_}
+use mathlib.Core.Path.{_≡_}
+use mathlib.Core.Bool.{Bool, true, false, _&&_}
 use mathlib.Core.List.{List, [], _∷_}
 use lib.Dec.{eqb}
-use Rattle.bits.specs.Choice.{if_then_else_}
-use Rattle.recorder.specs.Steps.{stepOf}
 use Rattle.machine.specs.declared.Event.{Event}
+use Rattle.machine.specs.declared.Event.the-variants.{Retired}
+use Rattle.machine.specs.declared.RetiredWord.{RetiredWord}
 use Rattle.recorder.specs.declared.State.{State}
-use Rattle.recorder.specs.declared.Stepped.{Stepped}
 use Rattle.recorder.specs.Runs.{Recorder}
 use Rattle.demands.specs.Demands.{Demand1, Demand2}
 
-abbrev answer : ℕ → ℕ → State → Stepped
-answer n v s = record { number = n; value = v; state = s }
-
--- refuses all
-abbrev pub refusesAll : Recorder
-refusesAll s e = answer 1 0 s
-
--- always says nothing, whatever it does
-abbrev pub saysNothing : Recorder
-saysNothing s e = answer (stepOf s e .number) 0 (stepOf s e .state)
-
--- never changes its state, whatever it says
-abbrev pub neverChanges : Recorder
-neverChanges s e = answer (stepOf s e .number) (stepOf s e .value) s
-
--- records the first event and then coasts: steps while all entry words are zero, and then does nothing more
 unfoldable pub allZero : List ℕ → Bool
 allZero [] = true
 allZero (x ∷ l) = eqb x 0 && allZero l
 
-abbrev pub coasts : Recorder
-coasts s e =
-    if allZero (s .ctrsource) && (allZero (s .ctrtarget) && allZero (s .ctrdata)) then stepOf s e
-    else answer (stepOf s e .number) 0 s
+-- refuses all
+abbrev RefusesAll : Recorder → Type 0
+RefusesAll f = (s : State) (e : Event) → f s e .number ≡ 0 → ⊥
+
+-- always says nothing
+abbrev SaysNothing : Recorder → Type 0
+SaysNothing f = (s : State) (w : RetiredWord) → f s (Retired w) .value ≡ 0
+
+-- never changes its state
+abbrev NeverChanges : Recorder → Type 0
+NeverChanges f = (s : State) (w : RetiredWord) → f s (Retired w) .state ≡ s
+
+-- records the first event and then coasts: says nothing once a ctrsource is not zero
+abbrev Coasts : Recorder → Type 0
+Coasts f = (s : State) (w : RetiredWord) → allZero (s .ctrsource) ≡ false → f s (Retired w) .value ≡ 0
 
 -- says 1 without a record
-abbrev pub saysOne : Recorder
-saysOne s e = if eqb (stepOf s e .value) 1 then answer 0 1 s else stepOf s e
+abbrev SaysOne : Recorder → Type 0
+SaysOne f = (s : State) (w : RetiredWord) → f s (Retired w) .value ≡ 1 → f s (Retired w) .state ≡ s
 
-pub record Useless : Type 0 where
+pub record Useless (f : Recorder) : Type 0 where
   -- 0 is given exactly when nothing else applies
-  pub refuses-all : Demand1 refusesAll → ⊥
+  pub refuses-all : RefusesAll f → Demand1 f → ⊥
   -- qualifying transfers enter
-  pub says-nothing : Demand2 saysNothing → ⊥
-  pub never-changes : Demand2 neverChanges → ⊥
+  pub says-nothing : SaysNothing f → Demand2 f → ⊥
+  pub never-changes : NeverChanges f → Demand2 f → ⊥
   -- at each event
-  pub coasting : Demand2 coasts → ⊥
+  pub coasting : Coasts f → Demand2 f → ⊥
   -- value 1 exactly if an entry and WRPTR changed as described
-  pub says-one : Demand2 saysOne → ⊥
+  pub says-one : SaysOne f → Demand2 f → ⊥

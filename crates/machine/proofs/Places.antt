@@ -4,9 +4,10 @@ use Prim.Native.Nat.{ℕ, suc, _+_, _-_, _*_, _/_, _%_, _<_}
 use native.Mathlib.Nat.{mod-lt, mod-mod, mod-add-mod, mod-add-div', add-mul-mod-self-right, suc-mul}
 use native.Mathlib.Omega.{arith}
 use Rattle.bits.specs.Words.{keep}
-use Rattle.machine.specs.Regs.{depthOf, physicalOf, goodBuffer, goodControls, goodOf}
+use Rattle.machine.specs.Depths.{depthOf, physicalOf}
+use Rattle.machine.specs.Good.{goodBuffer, goodControls, goodOf}
 use Rattle.machine.specs.Places.{Places}
-use Rattle.machine.proofs.Depths.{depth-pos}
+use Rattle.machine.proofs.DepthLaws.{depth-pos}
 
 -- going up again by 1 + i, of which i is i % d and whole turns of d
 back : (w i d : ℕ) → 0 < d → (w % d + (d - 1 - i % d)) + (1 + i) ≡ w % d + suc (i / d) * d

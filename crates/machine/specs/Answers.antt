@@ -47,14 +47,14 @@ values = 5
 abbrev pub refused : Registers → Verdict → Decision
 refused r v = record { number = numberOf v; value = 0; registers = r; effect = Keep }
 
--- answered with a value, the entries kept
-abbrev pub answered : Registers → ℕ → Decision
-answered r v = record { number = numberOf Accepted; value = v; registers = r; effect = Keep }
+-- accepted with a value, the entries kept
+abbrev pub accepted : Registers → ℕ → Decision
+accepted r v = record { number = numberOf Accepted; value = v; registers = r; effect = Keep }
 
--- answered with a value, and the entry in focus put
-abbrev pub answeredPut : Registers → ℕ → Entry → Decision
-answeredPut r v e = record { number = numberOf Accepted; value = v; registers = r; effect = Put e }
+-- accepted with a value, and the entry in focus put
+abbrev pub acceptedPut : Registers → ℕ → Entry → Decision
+acceptedPut r v e = record { number = numberOf Accepted; value = v; registers = r; effect = Put e }
 
--- answered with value 0, and all entries cleared
-abbrev pub answeredClear : Registers → Decision
-answeredClear r = record { number = numberOf Accepted; value = 0; registers = r; effect = ClearAll }
+-- accepted with value 0, and all entries cleared
+abbrev pub acceptedClear : Registers → Decision
+acceptedClear r = record { number = numberOf Accepted; value = 0; registers = r; effect = ClearAll }

@@ -3,7 +3,9 @@ use Prim.Native.Nat.{ℕ, _+_, _%_, _^_, _<_}
 use mathlib.Core.Path.{_≡_}
 use mathlib.Core.Bool.{true}
 use Rattle.machine.specs.Controls.{placeOf, mctrctlMask, sctrctlMask, machineMask}
-use Rattle.machine.specs.Regs.{resetRegisters, depthOf, physicalOf, goodOf}
+use Rattle.machine.specs.Regs.{resetRegisters}
+use Rattle.machine.specs.Depths.{depthOf, physicalOf}
+use Rattle.machine.specs.Good.{goodOf}
 use Rattle.machine.specs.declared.ControlBit.the-variants as Bit
 
 -- all control bits at their places

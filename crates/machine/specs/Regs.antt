@@ -1,9 +1,6 @@
--- The registers: all state but the entries. Their value at reset, one group or field changed, the depth, and number 5.
-use Prim.Native.Nat.{ℕ, _+_, _-_, _%_, _^_, min}
-use mathlib.Core.Bool.{Bool, true, false, _&&_}
-use lib.Dec.{eqb, leb, ltb}
-use Rattle.bits.specs.Words.{keep}
-use Rattle.machine.specs.Controls.{mctrctlMask, sctrctlMask}
+-- The registers: all state but the entries. Their value at reset, and with one group or field changed.
+use Prim.Native.Nat.{ℕ}
+use mathlib.Core.Bool.{true, false}
 use Rattle.machine.specs.declared.Mode.{Mode}
 use Rattle.machine.specs.declared.Mode.the-variants.{M}
 use Rattle.machine.specs.declared.ControlWords.{ControlWords}
@@ -45,26 +42,3 @@ withWrptr r x = withBuffer r (record { code = r .buffer .code; wrptr = x; frozen
 
 abbrev pub withFrozen : Registers → Registers
 withFrozen r = withBuffer r (record { code = r .buffer .code; wrptr = r .buffer .wrptr; frozen = true })
-
--- the largest depth code
-abbrev pub topCode : ℕ
-topCode = 3
-
--- the depth of a depth code: 16, 32, 64, 128; all codes above the largest count as it
-unfoldable pub depthOf : ℕ → ℕ
-depthOf code = 2 ^ (4 + min code topCode)
-
--- the physical entry of logical entry i: (WRPTR - 1 - i) modulo the depth
-unfoldable pub physicalOf : ℕ → ℕ → ℕ → ℕ
-physicalOf code wrptr i = (wrptr % depthOf code + (depthOf code - 1 - i % depthOf code)) % depthOf code
-
--- free of number 5: the depth code is at most the largest and WRPTR below the depth, and no control bit is outside its mask
-unfoldable pub goodBuffer : Buffer → Bool
-goodBuffer b = leb (b .code) topCode && ltb (b .wrptr) (depthOf (b .code))
-
-unfoldable pub goodControls : ControlWords → Bool
-goodControls c =
-    eqb (keep mctrctlMask (c .mctrctl)) (c .mctrctl) && eqb (keep sctrctlMask (c .vsctrctl)) (c .vsctrctl)
-
-unfoldable pub goodOf : Registers → Bool
-goodOf r = goodBuffer (r .buffer) && goodControls (r .controls)

@@ -1,7 +1,7 @@
 // The numbers and values of answers, and what an event decides.
 ghost use mathlib.Core.Path.{_≡_};
 ghost use Prim.Native.Nat.{min};
-ghost use Rattle.machine.specs.Answers.{numberOf, isAccepted, valueOf, numbers, values, refused, answered, answeredPut, answeredClear};
+ghost use Rattle.machine.specs.Answers.{numberOf, isAccepted, valueOf, numbers, values, refused, accepted, acceptedPut, acceptedClear};
 use crate::Decision;
 use crate::Effect;
 use crate::Entry;
@@ -55,14 +55,14 @@ pub const NUMBERS: u64 = 6;
 pub const VALUES: u64 = 5;
 
 // The place of a number among the numbers; what is none of them comes after the last.
-pub fn number_place(number: u64) -> u64
+pub fn number_index(number: u64) -> u64
     ensures { λ p. ⌜ p ≡ min number numbers ⌝ }
 {
     if number < NUMBERS { number } else { NUMBERS }
 }
 
 // The place of a value among the values of outcomes.
-pub fn value_place(value: u64) -> u64
+pub fn value_index(value: u64) -> u64
     ensures { λ p. ⌜ p ≡ min value values ⌝ }
 {
     if value < VALUES { value } else { VALUES }
@@ -80,9 +80,9 @@ pub fn refuse(r: Registers, v: Verdict) -> Decision
     }
 }
 
-// Answered with a value, the entries kept.
-pub fn answer(r: Registers, value: u64) -> Decision
-    ensures { λ d. ⌜ d ≡ answered r value ⌝ }
+// Accepted with a value, the entries kept.
+pub fn accept(r: Registers, value: u64) -> Decision
+    ensures { λ d. ⌜ d ≡ accepted r value ⌝ }
 {
     Decision {
         number: number(Verdict::Accepted),
@@ -92,9 +92,9 @@ pub fn answer(r: Registers, value: u64) -> Decision
     }
 }
 
-// Answered with a value, and the entry in focus put.
-pub fn answer_put(r: Registers, value: u64, e: Entry) -> Decision
-    ensures { λ d. ⌜ d ≡ answeredPut r value e ⌝ }
+// Accepted with a value, and the entry in focus put.
+pub fn accept_put(r: Registers, value: u64, e: Entry) -> Decision
+    ensures { λ d. ⌜ d ≡ acceptedPut r value e ⌝ }
 {
     Decision {
         number: number(Verdict::Accepted),
@@ -104,9 +104,9 @@ pub fn answer_put(r: Registers, value: u64, e: Entry) -> Decision
     }
 }
 
-// Answered with value 0, and all entries cleared.
-pub fn answer_clear(r: Registers) -> Decision
-    ensures { λ d. ⌜ d ≡ answeredClear r ⌝ }
+// Accepted with value 0, and all entries cleared.
+pub fn accept_clear(r: Registers) -> Decision
+    ensures { λ d. ⌜ d ≡ acceptedClear r ⌝ }
 {
     Decision {
         number: number(Verdict::Accepted),

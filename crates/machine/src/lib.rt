@@ -1,7 +1,9 @@
 // The machine that the recorder watches: modes, registers and events (docs/RULES.md, S and R).
 pub mod answers;
 pub mod controls;
+pub mod depths;
 pub mod entries;
+pub mod good;
 pub mod modes;
 pub mod regs;
 

@@ -1,8 +1,9 @@
 -- What the control registers say of traps and of transfer types: freezing, external traps, inhibits.
 use Prim.Native.Nat.{ℕ}
 use mathlib.Core.Bool.{Bool, true, false, not, _&&_, _||_}
-use lib.Dec.{eqb, leb}
+use lib.Dec.{eqb}
 use Rattle.bits.specs.Choice.{if_then_else_}
+use Rattle.bits.specs.Words.{isFromTo}
 use Rattle.machine.specs.Controls.{isSet}
 use Rattle.machine.specs.Modes.{isVU, controlOf}
 use Rattle.machine.specs.declared.Mode.{Mode}
@@ -53,11 +54,8 @@ externalOf r source U = false
 externalOf r source VU = false
 
 -- the types that may be recorded: 1 to 5 and 8 to 15
-abbrev pub fromTo : ℕ → ℕ → ℕ → Bool
-fromTo first last n = leb first n && leb n last
-
 abbrev pub isType : ℕ → Bool
-isType n = fromTo 1 5 n || fromTo 8 15 n
+isType n = isFromTo 1 5 n || isFromTo 8 15 n
 
 -- the bit that is about a type
 unfoldable pub inhibitBit : ℕ → ControlBit

@@ -3,7 +3,7 @@ ghost use mathlib.Core.Path.{_≡_};
 ghost use mathlib.Core.Bool.{not, _&&_};
 ghost use Rattle.machine.specs.Controls.{isSet};
 ghost use Rattle.machine.specs.Modes.{controlOf};
-ghost use Rattle.qualifying.specs.Filters.{freezesOf, externalToS, externalToM, externalOf, fromTo, isType, inhibitBit, inhibitedOf, VSTE, STE, MTE};
+ghost use Rattle.qualifying.specs.Filters.{freezesOf, externalToS, externalToM, externalOf, isType, inhibitBit, inhibitedOf, VSTE, STE, MTE};
 use machine::ControlBit;
 use machine::ControlRegister;
 use machine::Mode;
@@ -114,20 +114,14 @@ pub fn external(r: Registers, source: Mode, target: Mode) -> bool
     }
 }
 
-fn is_from_to(first: u64, last: u64, number: u64) -> bool
-    ensures { λ b. ⌜ b ≡ fromTo first last number ⌝ }
-{
-    first <= number && number <= last
-}
-
 // Whether a type may be recorded.
 fn is_type(number: u64) -> bool
     ensures { λ b. ⌜ b ≡ isType number ⌝ }
 {
-    if is_from_to(1, 5, number) {
+    if bits::is_from_to(1, 5, number) {
         true
     } else {
-        is_from_to(8, 15, number)
+        bits::is_from_to(8, 15, number)
     }
 }
 

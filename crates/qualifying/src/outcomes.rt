@@ -89,7 +89,7 @@ fn is_live(r: Registers) -> bool
     if is_on(r, m) { !r.buffer.frozen } else { false }
 }
 
-// What comes of a retired word that is the transfer t.
+// What comes of a retired word that is the transfer t. Number 5 is the caller's to look for.
 pub fn retired_outcome(r: Registers, t: Transfer, taken: bool) -> Outcome
     ensures { λ o. ⌜ o ≡ retiredOutcome r t taken ⌝ }
 {
@@ -163,7 +163,7 @@ fn trap_inhibited(r: Registers, t: TrapTo) -> bool
     inhibited(r, governing(m, n), trap_type(t.interrupt))
 }
 
-// What comes of a possible trap.
+// What comes of a trap, if it is possible: that and number 5 are the caller's to look for.
 pub fn trap_outcome(r: Registers, t: TrapTo) -> Outcome
     ensures { λ o. ⌜ o ≡ trapOutcome r t ⌝ }
 {
@@ -197,7 +197,7 @@ fn return_by(frozen: bool, rasemu: bool, source: bool, inhibited: bool) -> Outco
     }
 }
 
-// What comes of a possible trap return.
+// What comes of a trap return, if it is possible: that and number 5 are the caller's to look for.
 pub fn return_outcome(r: Registers, target: Mode) -> Outcome
     ensures { λ o. ⌜ o ≡ returnOutcome r target ⌝ }
 {

@@ -5,8 +5,8 @@ use Prim.Native.Nat.{ℕ, _<_}
 use lib.ListN.{length-set}
 use Rattle.bits.specs.Choice.{if_then_else_}
 use Rattle.classifier.specs.declared.Transfer.{Transfer}
-use Rattle.machine.proofs.Depths.{wrapped-lt}
-use Rattle.machine.specs.Regs.{physicalOf}
+use Rattle.machine.proofs.DepthLaws.{wrapped-lt}
+use Rattle.machine.specs.Depths.{physicalOf}
 use Rattle.machine.specs.declared.Registers.{Registers}
 use Rattle.machine.specs.declared.Decision.{Decision}
 use Rattle.machine.specs.declared.Effect.{Effect}
@@ -33,21 +33,21 @@ physical-lt : (code wrptr i : ℕ) → physicalOf code wrptr i < entries
 unfolding physicalOf
 physical-lt code wrptr i = wrapped-lt _ code
 
-outcome-lt : (r : Registers) (o : Outcome) → Transfers.focusOf r o < entries
-unfolding Transfers.focusOf
+outcome-lt : (r : Registers) (o : Outcome) → Transfers.outcomeFocus r o < entries
+unfolding Transfers.outcomeFocus
 outcome-lt r Nothing = at-wrptr-lt r
 outcome-lt r Record = at-wrptr-lt r
 outcome-lt r Pop = physical-lt (r .buffer .code) (r .buffer .wrptr) 0
 outcome-lt r Swap = physical-lt (r .buffer .code) (r .buffer .wrptr) 0
 outcome-lt r Freeze = at-wrptr-lt r
 
-retired-lt : (r : Registers) (t : Transfer) (b : Bool) → (if b then Transfers.focusOf r (stackOutcome t) else atWrptr (r .buffer)) < entries
+retired-lt : (r : Registers) (t : Transfer) (b : Bool) → (if b then Transfers.outcomeFocus r (stackOutcome t) else atWrptr (r .buffer)) < entries
 retired-lt r t true = outcome-lt r (stackOutcome t)
 retired-lt r t false = at-wrptr-lt r
 
 -- the entry in focus is one of the entries, of bad registers too
 pub focus-lt : (r : Registers) (t : Transfer) (e : Event) → focusOf r t e < entries
-unfolding focusOf retiredFocus Accesses.focusOf
+unfolding focusOf retiredFocus Accesses.accessFocus
 focus-lt r t (Retired w) = retired-lt r t (rasemuOf r (r .mode) (r .mode))
 focus-lt r t (Trap x) = at-wrptr-lt r
 focus-lt r t (TrapReturn x) = at-wrptr-lt r

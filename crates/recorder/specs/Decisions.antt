@@ -2,7 +2,7 @@
 use Rattle.bits.specs.Choice.{if_then_else_}
 use Rattle.classifier.specs.declared.Transfer.{Transfer}
 use Rattle.machine.specs.Answers.{refused}
-use Rattle.machine.specs.Regs.{goodOf}
+use Rattle.machine.specs.Good.{goodOf}
 use Rattle.machine.specs.declared.Registers.{Registers}
 use Rattle.machine.specs.declared.Entry.{Entry}
 use Rattle.machine.specs.declared.Decision.{Decision}

@@ -4,7 +4,7 @@ use Rattle.bits.specs.Choice.{if_then_else_}
 use Rattle.classifier.specs.Transfers.{transferOf}
 use Rattle.classifier.specs.declared.Transfer.{Transfer}
 use Rattle.classifier.specs.declared.Transfer.the-variants.{None}
-use Rattle.machine.specs.Regs.{depthOf}
+use Rattle.machine.specs.Depths.{depthOf}
 use Rattle.machine.specs.declared.Buffer.{Buffer}
 use Rattle.machine.specs.declared.Registers.{Registers}
 use Rattle.access.specs.Accesses as Accesses
@@ -29,7 +29,7 @@ atWrptr b = b .wrptr % depthOf (b .code)
 -- of a retired word: under RASEMU what the call stack makes of its transfer is about logical entry 0 or the entry at WRPTR; else
 -- a record is about the one at WRPTR
 unfoldable pub retiredFocus : Registers → Transfer → ℕ
-retiredFocus r t = if rasemuOf r (r .mode) (r .mode) then Transfers.focusOf r (stackOutcome t) else atWrptr (r .buffer)
+retiredFocus r t = if rasemuOf r (r .mode) (r .mode) then Transfers.outcomeFocus r (stackOutcome t) else atWrptr (r .buffer)
 
 -- the physical entry that an event is about, given the transfer of its word: the one above of a retired word, the one at
 -- WRPTR of a trap or return, the selected one of an access. The others are about no entry alone
@@ -37,6 +37,6 @@ unfoldable pub focusOf : Registers → Transfer → Event → ℕ
 focusOf r t (Retired w) = retiredFocus r t
 focusOf r t (Trap x) = atWrptr (r .buffer)
 focusOf r t (TrapReturn x) = atWrptr (r .buffer)
-focusOf r t (Access a) = Accesses.focusOf r (a .number)
+focusOf r t (Access a) = Accesses.accessFocus r (a .number)
 focusOf r t Sctrclr = atWrptr (r .buffer)
 focusOf r t (Host h) = atWrptr (r .buffer)

@@ -8,7 +8,7 @@ use machine::Event;
 use machine::Registers;
 use machine::Verdict;
 use machine::answers::refuse;
-use machine::regs::is_good;
+use machine::good::is_good;
 
 // From registers free of number 5.
 fn decide_event(r: Registers, old: Entry, t: Transfer, e: Event) -> Decision

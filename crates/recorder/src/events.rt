@@ -9,7 +9,7 @@ use classifier::Transfer;
 use machine::Buffer;
 use machine::Event;
 use machine::Registers;
-use machine::regs::wrapped;
+use machine::depths::wrapped;
 use qualifying::outcomes::rasemu;
 use qualifying::outcomes::stack_outcome;
 
@@ -36,7 +36,7 @@ fn at_wrptr(b: Buffer) -> u64
 
 // The physical entry that the call stack's outcome is about.
 fn stack_focus(r: Registers, t: Transfer) -> u64
-    ensures { λ n. ⌜ n ≡ Transfers.focusOf r (stackOutcome t) ⌝ }
+    ensures { λ n. ⌜ n ≡ Transfers.outcomeFocus r (stackOutcome t) ⌝ }
 {
     transfers::decisions::focus(r, stack_outcome(t))
 }
@@ -70,7 +70,7 @@ fn focus(r: Registers, t: Transfer, e: Event) -> u64
 }
 
 // The same, as an index of the entries.
-pub fn place(r: Registers, t: Transfer, e: Event) -> usize
+pub fn index(r: Registers, t: Transfer, e: Event) -> usize
     ensures within { λ n. ⌜ n < entries ⌝ }
     ensures focused { λ n. ⌜ n ≡ focusOf r t e ⌝ }
 {

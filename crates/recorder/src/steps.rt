@@ -8,7 +8,7 @@ use crate::ENTRIES;
 use crate::State;
 use crate::Stepped;
 use crate::decide::decide;
-use crate::events::place;
+use crate::events::index;
 use crate::events::transfer;
 use machine::Effect;
 use machine::Entry;
@@ -66,7 +66,7 @@ pub fn step_in_place(
     ensures { λ a. ⌜ stepOf (stateOf r (entriesOf (now (ctrsource .entry)) (now (ctrtarget .entry)) (now (ctrdata .entry)))) e ≡ stepped a (entriesOf (now (ctrsource .exit)) (now (ctrtarget .exit)) (now (ctrdata .exit))) ⌝ }
 {
     let t = transfer(r, e);
-    let at = place(r, t, e);
+    let at = index(r, t, e);
     let old = Entry {
         ctrsource: ctrsource[at],
         ctrtarget: ctrtarget[at],

@@ -26,6 +26,10 @@ const SIREG3: u64 = 0x153;
 
 const SCTRDEPTH: u64 = 0x15F;
 
+const VSCTRCTL: u64 = 0x24E;
+
+const VSISELECT: u64 = 0x250;
+
 const MCTRCTL: u64 = 0x34E;
 
 // The state after an event.
@@ -74,9 +78,9 @@ fn sret(s: State, mode: Mode) -> State {
     )
 }
 
-fn trap_to_m() -> Event {
+fn trap_to(mode: Mode) -> Event {
     Event::Trap(TrapTo {
-        mode: Mode::M,
+        mode,
         interrupt: false,
         cause: 8,
         epc: 0x6000,
@@ -158,7 +162,7 @@ fn controls() {
     line(b"mctrctl after all ones", all_ones, read(MCTRCTL));
     let in_s = sret(host(all_ones, true, false), Mode::S);
     line(b"sctrctl read by S", in_s, read(SCTRCTL));
-    let in_m = after(write(in_s, SCTRCTL, 0), trap_to_m());
+    let in_m = after(write(in_s, SCTRCTL, 0), trap_to(Mode::M));
     line(b"mctrctl after S wrote 0 to sctrctl", in_m, read(MCTRCTL));
 }
 
@@ -198,10 +202,10 @@ fn depths() {
 
 fn traps() {
     let without = sret(write(reset(), MCTRCTL, 0x201), Mode::U);
-    line(b"U to M with MTE", without, trap_to_m());
+    line(b"U to M with MTE", without, trap_to(Mode::M));
     let with = sret(write(reset(), MCTRCTL, 0x301), Mode::U);
-    line(b"U to M with MTE and STE", with, trap_to_m());
-    let recorded = write(after(with, trap_to_m()), SISELECT, 0x200);
+    line(b"U to M with MTE and STE", with, trap_to(Mode::M));
+    let recorded = write(after(with, trap_to(Mode::M)), SISELECT, 0x200);
     line(b"its ctrsource", recorded, read(SIREG));
     line(b"its ctrtarget", recorded, read(SIREG2));
     line(b"its ctrdata", recorded, read(SIREG3));
@@ -209,7 +213,7 @@ fn traps() {
 
 fn trap_from_off() {
     let in_s = sret(write(reset(), MCTRCTL, 4), Mode::S);
-    let in_m = after(in_s, trap_to_m());
+    let in_m = after(in_s, trap_to(Mode::M));
     line(b"S off to M on", write(in_m, SISELECT, 0x200), read(SIREG));
 }
 
@@ -234,6 +238,49 @@ fn emulated_return() {
     );
 }
 
+// Where another implementation departs from the ratified text (docs/PEERS.md).
+fn guest_traps() {
+    let inhibited = write(write(reset(), VSCTRCTL, 1), MCTRCTL, 0x2_0000_0002);
+    line(
+        b"VU to S with EXCINH in mctrctl alone",
+        sret(inhibited, Mode::VU),
+        trap_to(Mode::S),
+    );
+    let external = write(
+        write(host(reset(), true, false), VSCTRCTL, 2),
+        MCTRCTL,
+        0x100,
+    );
+    let in_vs = sret(external, Mode::VS);
+    line(
+        b"VS to S with STE and without VSTE",
+        in_vs,
+        trap_to(Mode::S),
+    );
+    let recorded = write(after(in_vs, trap_to(Mode::S)), SISELECT, 0x200);
+    line(b"ctrtarget of that trap", recorded, read(SIREG2));
+}
+
+fn closed_windows() {
+    let in_s = sret(write(reset(), SISELECT, 0x200), Mode::S);
+    line(
+        b"S reads sireg in the window with mstateen0.CTR 0",
+        in_s,
+        read(SIREG),
+    );
+    let guest = write(host(reset(), true, false), VSISELECT, 0x200);
+    line(
+        b"VS reads sireg in the window with hstateen0.CTR 0",
+        sret(guest, Mode::VS),
+        read(SIREG),
+    );
+    line(
+        b"VU reads siselect",
+        sret(reset(), Mode::VU),
+        read(SISELECT),
+    );
+}
+
 pub(crate) fn report() {
     io::write_all(STDOUT_FILENO, b"bench lines\n");
     enables();
@@ -245,4 +292,6 @@ pub(crate) fn report() {
     traps();
     trap_from_off();
     emulated_return();
+    guest_traps();
+    closed_windows();
 }

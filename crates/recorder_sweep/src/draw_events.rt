@@ -3,12 +3,13 @@ use machine::CsrAccess;
 use machine::Enables;
 use machine::Event;
 use machine::Mode;
+use machine::Operation;
 use machine::RetiredWord;
 use machine::ReturnTo;
 use machine::TrapTo;
-use sweep_support::codes::mode_of;
-use sweep_support::codes::operation_of;
 use test_support::xorshift64;
+use trace::codes::mode_of;
+use trace::codes::operation_of;
 
 // An event, and the last word drawn for it.
 pub(crate) struct Drawn {
@@ -16,28 +17,46 @@ pub(crate) struct Drawn {
     pub(crate) random: u64,
 }
 
-// Each type, by 32-bit and compressed words, and words that are none.
-const WORDS: [u32; 16] = [
-    0x0000_00EF,
+// Each type by each kind of word that has it, with x1, x5 and a register that is not link as rd and
+// as base; then words that are none.
+const WORDS: [u32; 32] = [
     0x0000_8067,
-    0x0002_80E7,
-    0x0000_80E7,
+    0x0002_8067,
     0x0003_0067,
+    0x0000_80E7,
+    0x0002_80E7,
+    0x0003_00E7,
+    0x0000_82E7,
+    0x0002_82E7,
+    0x0003_02E7,
+    0x0000_8367,
+    0x0002_8367,
     0x0003_8367,
     0x0000_006F,
+    0x0000_00EF,
+    0x0000_02EF,
     0x0000_036F,
-    0x0000_0063,
+    0x0000_8082,
+    0x0000_8282,
+    0x0000_8302,
     0x0000_9082,
     0x0000_9282,
-    0x0000_8082,
+    0x0000_9302,
     0x0000_A001,
     0x0000_C001,
+    0x0000_E001,
+    0x0000_0063,
+    0x0000_7063,
     0x0000_9002,
-    0x0000_0013,
+    0x0000_8002,
+    0x0000_90E7,
+    0x3020_0073,
+    0x1040_0073,
 ];
 
-// Every listed CSR number, a few that are not listed, and the ones that matter most again.
-const NUMBERS: [u64; 32] = [
+// Every listed CSR number; some that are not, beside them, at the ends of the ranges and far away;
+// and the ones that matter most again.
+const NUMBERS: [u64; 40] = [
     0x14E,
     0x14F,
     0x15F,
@@ -63,21 +82,71 @@ const NUMBERS: [u64; 32] = [
     0x14D,
     0x25F,
     0x350,
+    0,
+    0x1FF,
+    0x200,
+    0x2FF,
+    0x300,
+    0xFFF,
+    0x1_0000_014E,
     0x34E,
     0x14E,
     0x24E,
+    0x14F,
     0x151,
     0x150,
     0x251,
     0x250,
 ];
 
-// Both ends of the window, and of the entries at depths 16 and 128.
-const EDGES: [u64; 8] = [0x1FF, 0x200, 0x20F, 0x210, 0x27F, 0x280, 0x2FF, 0x300];
+// Both ends of the window, and of the entries at depths 16 and 128; then in the window but for a high
+// bit.
+const EDGES: [u64; 10] = [
+    0x1FF,
+    0x200,
+    0x20F,
+    0x210,
+    0x27F,
+    0x280,
+    0x2FF,
+    0x300,
+    0x100_0000_0205,
+    0x8000_0000_0000_0205,
+];
+
+// The causes that freeze, those beside them, those that are equal to them in their low bits, and the
+// largest.
+const CAUSES: [u64; 15] = [
+    3,
+    13,
+    3,
+    13,
+    0,
+    2,
+    4,
+    12,
+    14,
+    0x1_0000_0003,
+    0x1_0000_000D,
+    0x8000_0000_0000_0003,
+    0x8000_0000_0000_000D,
+    0x13,
+    0xFFFF_FFFF_FFFF_FFFF,
+];
+
+// Any address, and often 0, 1 or the last one.
+pub(crate) fn address(x: u64) -> u64 {
+    match x % 16 {
+        0 => 0,
+        1 => 1,
+        2 => 0xFFFF_FFFF_FFFF_FFFF,
+        _ => x,
+    }
+}
 
 // One of eight is any word.
 fn word_of(w: u64) -> u32 {
-    let at = (w / 8 % 16) as usize;
+    let at = (w / 8 % 32) as usize;
     if w % 8 == 0 {
         (w / 8 % 0x1_0000_0000) as u32
     } else {
@@ -100,7 +169,7 @@ pub(crate) fn draw_word(random: u64) -> Drawn {
     let pc = xorshift64(w);
     let target = xorshift64(pc);
     Drawn {
-        event: retired(w, pc, target, w / 128 % 2 == 1),
+        event: retired(w, address(pc), address(target), w / 256 % 2 == 1),
         random: target,
     }
 }
@@ -123,7 +192,7 @@ fn guest_trap_target(choice: u64) -> Mode {
 // One of four goes to any mode, the others to one that a trap can go to.
 fn trap_target(mode: Mode, c: u64) -> Mode {
     if c % 4 == 0 {
-        return mode_of(c / 4);
+        return mode_of(c / 4 % 5);
     }
     match mode {
         Mode::U => host_trap_target(c / 4),
@@ -153,32 +222,28 @@ fn guest_return_target(choice: u64) -> Mode {
 // One of four goes to any mode, the others to one that a return can go to, where there is one.
 fn return_target(mode: Mode, c: u64) -> Mode {
     if c % 4 == 0 {
-        return mode_of(c / 4);
+        return mode_of(c / 4 % 5);
     }
     match mode {
-        Mode::U => mode_of(c / 4),
+        Mode::U => mode_of(c / 4 % 5),
         Mode::S => supervisor_return_target(c / 4),
-        Mode::M => mode_of(c / 4),
-        Mode::VU => mode_of(c / 4),
+        Mode::M => mode_of(c / 4 % 5),
+        Mode::VU => mode_of(c / 4 % 5),
         Mode::VS => guest_return_target(c / 4),
     }
 }
 
-// The causes that freeze, another exception, and any cause.
-fn cause_of(choice: u64, other: u64) -> u64 {
-    match choice % 4 {
-        0 => 3,
-        1 => 13,
-        2 => 2,
-        _ => other,
-    }
+// One of 16 is any cause.
+fn cause_of(choice: u64, z: u64) -> u64 {
+    let at = (choice % 16) as usize;
+    if at < 15 { CAUSES[at] } else { z }
 }
 
-fn trap(mode: Mode, c: u64, w: u64, epc: u64, handler: u64) -> Event {
+fn trap(mode: Mode, c: u64, z: u64, epc: u64, handler: u64) -> Event {
     Event::Trap(TrapTo {
         mode: trap_target(mode, c),
         interrupt: c / 16 % 2 == 1,
-        cause: cause_of(c / 32, w),
+        cause: cause_of(c / 32, z),
         epc,
         handler,
     })
@@ -186,7 +251,7 @@ fn trap(mode: Mode, c: u64, w: u64, epc: u64, handler: u64) -> Event {
 
 // Any word, or one that suits a control register, sctrstatus, a selection or a depth code.
 fn operand(choice: u64, z: u64) -> u64 {
-    let at = (z % 8) as usize;
+    let at = (z % 10) as usize;
     match choice % 8 {
         0 => z,
         1 => (z & 0x1B07) | 7,
@@ -200,11 +265,20 @@ fn operand(choice: u64, z: u64) -> u64 {
 }
 
 fn access(c: u64, w: u64, z: u64) -> Event {
-    let at = (w % 32) as usize;
+    let at = (w % 40) as usize;
     Event::Access(CsrAccess {
-        operation: operation_of(c),
+        operation: operation_of(c % 4),
         number: NUMBERS[at],
         operand: operand(c / 4, z),
+    })
+}
+
+// FROZEN cleared, so that what was frozen goes on, with WRPTR anywhere.
+fn thaw(z: u64) -> Event {
+    Event::Access(CsrAccess {
+        operation: Operation::Write,
+        number: 0x14F,
+        operand: z % 256,
     })
 }
 
@@ -227,9 +301,10 @@ fn event_of(mode: Mode, k: u64, w: u64, x: u64, y: u64, z: u64) -> Event {
     let c = k / 64;
     match k % 64 {
         0..=29 => retired(w, x, y, c % 2 == 1),
-        30..=37 => trap(mode, c, w, x, y),
+        30..=37 => trap(mode, c, z, x, y),
         38..=45 => trap_return(mode, c, x, y),
-        46..=61 => access(c, w, z),
+        46..=58 => access(c, w, z),
+        59..=61 => thaw(z),
         62 => Event::Sctrclr,
         _ => host(c),
     }
@@ -243,7 +318,7 @@ pub(crate) fn draw_event(random: u64, mode: Mode) -> Drawn {
     let y = xorshift64(x);
     let z = xorshift64(y);
     Drawn {
-        event: event_of(mode, k, w, x, y, z),
+        event: event_of(mode, k, w, address(x), address(y), z),
         random: z,
     }
 }

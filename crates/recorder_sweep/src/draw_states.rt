@@ -6,9 +6,11 @@ use machine::Registers;
 use machine::Selects;
 use machine::controls::MCTRCTL_MASK;
 use machine::controls::SCTRCTL_MASK;
+use machine::regs::with_controls;
 use recorder::ENTRIES;
-use sweep_support::codes::mode_of;
+use std::num::wrapping_add_u64;
 use test_support::xorshift64;
+use trace::codes::mode_of;
 
 // Registers, and the last word drawn for them.
 pub(crate) struct Start {
@@ -38,7 +40,7 @@ fn good_buffer(a: u64, d: u64) -> Buffer {
     let code = a / 5 % 4;
     Buffer {
         code,
-        wrptr: machine::regs::wrapped(d, code),
+        wrptr: machine::depths::wrapped(d, code),
         frozen: a / 20 % 8 == 0,
     }
 }
@@ -57,16 +59,22 @@ fn enables_of(a: u64) -> Enables {
     }
 }
 
-fn past_the_depth(code: u64, d: u64) -> u64 {
-    std::num::wrapping_add_u64(machine::regs::depth(code), d % 1000)
+// A number from the least on: that one, the largest, one near or one anywhere.
+fn from_up(least: u64, d: u64) -> u64 {
+    match d % 4 {
+        0 => least,
+        1 => 0xFFFF_FFFF_FFFF_FFFF,
+        2 => wrapping_add_u64(least, d / 4 % 1000),
+        _ => wrapping_add_u64(least, d / 8),
+    }
 }
 
 // One of four is spoiled, in one of the four ways that number 5 is about.
 fn spoiled_buffer(b: Buffer, choice: u64, d: u64) -> Buffer {
     let mut q = b;
     match choice % 16 {
-        0 => q.code = 4 + d % 1000,
-        1 => q.wrptr = past_the_depth(b.code, d),
+        0 => q.code = from_up(4, d),
+        1 => q.wrptr = from_up(machine::depths::depth(b.code), d),
         _ => {}
     }
     q
@@ -89,7 +97,7 @@ pub(crate) fn draw_registers(random: u64) -> Start {
     let d = xorshift64(c);
     let f = xorshift64(d);
     let registers = Registers {
-        mode: mode_of(a),
+        mode: mode_of(a % 5),
         controls: spoiled_controls(good_controls(a, b, c), a / 10240),
         buffer: spoiled_buffer(good_buffer(a, d), a / 10240, d),
         selects: selects_of(f),
@@ -99,6 +107,23 @@ pub(crate) fn draw_registers(random: u64) -> Start {
         registers,
         random: f,
     }
+}
+
+// The first lists set each single bit of the two control words in turn, stray or not.
+fn with_bit(c: ControlWords, list: u64) -> ControlWords {
+    let mut q = c;
+    if list < 64 {
+        q.mctrctl = c.mctrctl | (1 << list);
+    } else if list < 128 {
+        q.vsctrctl = c.vsctrctl | (1 << (list - 64));
+    }
+    q
+}
+
+// The registers that a list of the random run starts from.
+pub(crate) fn with_list_bit(r: Registers, list: u64) -> Registers {
+    let c = r.controls;
+    with_controls(r, with_bit(c, list))
 }
 
 // Fills the entries, undefined bits too, and answers the last word drawn.

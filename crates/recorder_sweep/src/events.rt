@@ -6,7 +6,7 @@ use machine::ReturnTo;
 use machine::TrapTo;
 use machine::modes::is_on;
 use std::num::wrapping_add_u64;
-use sweep_support::codes::flag;
+use trace::codes::flag;
 
 // The addresses of a trap or trap return.
 struct Addresses {

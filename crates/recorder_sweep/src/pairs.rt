@@ -1,6 +1,7 @@
 // Pairs of lists that differ only where modes are off: in words retired there, which are struck, and
 // in addresses on their side. The answers left and the end states have to be equal. Run A is in
 // place, run B by value.
+use crate::draw_events::address;
 use crate::draw_events::draw_event;
 use crate::draw_events::draw_word;
 use crate::draw_states::draw_entries;
@@ -10,28 +11,30 @@ use crate::events::is_off;
 use crate::events::is_retired;
 use crate::events::with_addresses;
 use crate::states::digest_state;
-use crate::states::is_same;
+use crate::states::digest_value;
 use libc::STDOUT_FILENO;
 use machine::Event;
 use machine::Registers;
-use machine::regs::is_good;
+use machine::good::is_good;
 use recorder::ENTRIES;
 use recorder::State;
 use recorder::steps::step;
 use recorder::steps::step_in_place;
 use std::num::wrapping_add_u64;
-use sweep_support::codes::flag;
 use sweep_support::digests::digest_answer;
 use sweep_support::lines::put_count;
 use sweep_support::lines::put_word;
 use test_support::SEED;
 use test_support::xorshift64;
+use trace::codes::flag;
 
 // What was seen, and the last word drawn.
 struct Tally {
     random: u64,
     bad_starts: u64,
     unequal_lengths: u64,
+    empty_lists: u64,
+    struck_to_nothing: u64,
     words_struck: u64,
     addresses_differed: u64,
     events_left: u64,
@@ -41,12 +44,14 @@ struct Tally {
     end_states: u64,
 }
 
-// A pair under way: A but for its entries, B, and how many words each retired alone.
+// A pair under way: A but for its entries, B, how many words each retired alone, and how many events
+// are left.
 struct Pair {
     a: Registers,
     b: State,
     alone_in_a: u64,
     alone_in_b: u64,
+    left: u64,
     tally: Tally,
 }
 
@@ -64,7 +69,14 @@ struct ByValue {
 
 const PAIRS: u64 = 4000;
 
-const TURNS: u64 = 16;
+// How many events a pair has in common, so that lists may be empty or be struck to nothing.
+fn turns_of(n: u64) -> u64 {
+    match n % 8 {
+        0 => 0,
+        1 => 1,
+        _ => 16,
+    }
+}
 
 // How many words a run retires alone: only words in a mode that is off are struck.
 fn words_alone(r: Registers, n: u64) -> u64 {
@@ -136,6 +148,7 @@ fn run_alone(
         b: state,
         alone_in_a: wrapping_add_u64(p.alone_in_a, in_a),
         alone_in_b: wrapping_add_u64(p.alone_in_b, in_b),
+        left: p.left,
         tally,
     }
 }
@@ -180,11 +193,12 @@ fn run_shared(
     let e = drawn.event;
     let source = xorshift64(drawn.random);
     let target = xorshift64(source);
-    let other = with_addresses(e, r, q, source, target);
+    let other = with_addresses(e, r, q, address(source), address(target));
     let a = step_in_place(ctrsource, ctrtarget, ctrdata, r, e);
     let b = step(s, other);
     let same = a.number == b.number && a.value == b.value;
-    let mut tally = tallied(p.tally, times_struck(e, r, q), same, a.number, a.value);
+    let struck = times_struck(e, r, q);
+    let mut tally = tallied(p.tally, struck, same, a.number, a.value);
     tally.random = target;
     let differed = differing_addresses(e, other);
     tally.addresses_differed = wrapping_add_u64(tally.addresses_differed, differed);
@@ -195,8 +209,20 @@ fn run_shared(
         b: state,
         alone_in_a: p.alone_in_a,
         alone_in_b: p.alone_in_b,
+        left: wrapping_add_u64(p.left, flag(struck == 0)),
         tally,
     }
+}
+
+// A list, by how many words it has alone, how many events both have, and how many are left.
+fn with_list(t: Tally, alone: u64, turns: u64, left: u64) -> Tally {
+    let mut next = t;
+    if alone == 0 && turns == 0 {
+        next.empty_lists = wrapping_add_u64(next.empty_lists, 1);
+    } else if left == 0 {
+        next.struck_to_nothing = wrapping_add_u64(next.struck_to_nothing, 1);
+    }
+    next
 }
 
 // The end of a pair.
@@ -205,16 +231,19 @@ fn ended(
     ctrtarget: &[u64; ENTRIES],
     ctrdata: &[u64; ENTRIES],
     p: Pair,
+    turns: u64,
 ) -> Tally {
     let r = p.a;
     let s = p.b;
-    let same = is_same(s, r, ctrsource, ctrtarget, ctrdata);
-    let mut t = p.tally;
+    let with_a = with_list(p.tally, p.alone_in_a, turns, p.left);
+    let mut t = with_list(with_a, p.alone_in_b, turns, p.left);
     t.unequal_lengths = wrapping_add_u64(t.unequal_lengths, flag(p.alone_in_a != p.alone_in_b));
     let struck = wrapping_add_u64(p.alone_in_a, p.alone_in_b);
     t.words_struck = wrapping_add_u64(t.words_struck, struck);
-    t.end_states_unequal = wrapping_add_u64(t.end_states_unequal, flag(!same));
-    t.end_states = digest_state(t.end_states, r, ctrsource, ctrtarget, ctrdata);
+    let a = digest_state(t.end_states, r, ctrsource, ctrtarget, ctrdata);
+    let b = digest_value(t.end_states, s);
+    t.end_states_unequal = wrapping_add_u64(t.end_states_unequal, flag(a != b));
+    t.end_states = a;
     t
 }
 
@@ -225,14 +254,31 @@ fn started(t: Tally, random: u64, good: bool) -> Tally {
     next
 }
 
+// The events that both runs have, and what each retires alone before each of them and at the end.
+fn run_turns(
+    ctrsource: &mut [u64; ENTRIES],
+    ctrtarget: &mut [u64; ENTRIES],
+    ctrdata: &mut [u64; ENTRIES],
+    p: Pair,
+    turns: u64,
+) -> Pair {
+    let mut q = p;
+    for _ in 0..turns {
+        q = run_alone(ctrsource, ctrtarget, ctrdata, q);
+        q = run_shared(ctrsource, ctrtarget, ctrdata, q);
+    }
+    run_alone(ctrsource, ctrtarget, ctrdata, q)
+}
+
 fn run_pair(t: Tally) -> Tally {
     let mut ctrsource = [0; ENTRIES];
     let mut ctrtarget = [0; ENTRIES];
     let mut ctrdata = [0; ENTRIES];
     let start = draw_registers(t.random);
     let filled = draw_entries(&mut ctrsource, &mut ctrtarget, &mut ctrdata, start.random);
+    let choice = xorshift64(filled);
     let registers = start.registers;
-    let mut p = Pair {
+    let p = Pair {
         a: registers,
         b: State {
             registers,
@@ -242,13 +288,12 @@ fn run_pair(t: Tally) -> Tally {
         },
         alone_in_a: 0,
         alone_in_b: 0,
-        tally: started(t, filled, is_good(registers)),
+        left: 0,
+        tally: started(t, choice, is_good(registers)),
     };
-    for _ in 0..TURNS {
-        p = run_alone(&mut ctrsource, &mut ctrtarget, &mut ctrdata, p);
-        p = run_shared(&mut ctrsource, &mut ctrtarget, &mut ctrdata, p);
-    }
-    ended(&ctrsource, &ctrtarget, &ctrdata, p)
+    let turns = turns_of(choice);
+    let q = run_turns(&mut ctrsource, &mut ctrtarget, &mut ctrdata, p, turns);
+    ended(&ctrsource, &ctrtarget, &ctrdata, q, turns)
 }
 
 fn run_pairs() -> Tally {
@@ -256,6 +301,8 @@ fn run_pairs() -> Tally {
         random: SEED,
         bad_starts: 0,
         unequal_lengths: 0,
+        empty_lists: 0,
+        struck_to_nothing: 0,
         words_struck: 0,
         addresses_differed: 0,
         events_left: 0,
@@ -277,6 +324,8 @@ pub(crate) fn report() {
     at = put_count(&mut out, at, b"  pairs ", PAIRS);
     at = put_count(&mut out, at, b"  bad starts ", t.bad_starts);
     at = put_count(&mut out, at, b"  unequal lengths ", t.unequal_lengths);
+    at = put_count(&mut out, at, b"  empty lists ", t.empty_lists);
+    at = put_count(&mut out, at, b"  struck to nothing ", t.struck_to_nothing);
     at = put_count(&mut out, at, b"  words struck ", t.words_struck);
     at = put_count(&mut out, at, b"  addresses differed ", t.addresses_differed);
     at = put_count(&mut out, at, b"  events left ", t.events_left);

@@ -2,28 +2,30 @@
 use crate::draw_events::draw_event;
 use crate::draw_states::draw_entries;
 use crate::draw_states::draw_registers;
+use crate::draw_states::with_list_bit;
 use crate::events::is_transfer;
 use crate::states::digest_state;
 use libc::STDOUT_FILENO;
 use machine::Registers;
-use machine::answers::number_place;
-use machine::answers::value_place;
-use machine::regs::is_good;
+use machine::answers::number_index;
+use machine::answers::value_index;
+use machine::good::is_good;
 use recorder::ENTRIES;
 use recorder::steps::step_in_place;
 use std::num::wrapping_add_u64;
-use sweep_support::codes::flag;
 use sweep_support::digests::digest_answer;
 use sweep_support::lines::put_count;
 use sweep_support::lines::put_counts;
 use sweep_support::lines::put_word;
 use test_support::SEED;
+use trace::codes::flag;
 
 // What was seen, and the last word drawn.
 struct Tally {
     random: u64,
     bad_starts: u64,
     events: u64,
+    frozen: u64,
     numbers: [u64; 6],
     values: [u64; 5],
     answers: u64,
@@ -46,11 +48,11 @@ fn events_from(good: bool) -> u64 {
 fn tallied(t: Tally, transfer: bool, number: u64, value: u64) -> Tally {
     let mut next = t;
     next.events = wrapping_add_u64(next.events, 1);
-    let k = number_place(number) as usize;
+    let k = number_index(number) as usize;
     if k < 6 {
         next.numbers[k] = wrapping_add_u64(next.numbers[k], 1);
     }
-    let v = value_place(value) as usize;
+    let v = value_index(value) as usize;
     if transfer && number == 0 && v < 5 {
         next.values[v] = wrapping_add_u64(next.values[v], 1);
     }
@@ -80,17 +82,19 @@ fn run_event(
     let registers = a.registers;
     let mut tally = tallied(l.tally, is_transfer(e), a.number, a.value);
     tally.random = drawn.random;
+    tally.frozen = wrapping_add_u64(tally.frozen, flag(r.buffer.frozen));
     tally.states = digest_state(tally.states, registers, ctrsource, ctrtarget, ctrdata);
     List { registers, tally }
 }
 
-fn run_list(t: Tally) -> Tally {
+fn run_list(t: Tally, list: u64) -> Tally {
     let mut ctrsource = [0; ENTRIES];
     let mut ctrtarget = [0; ENTRIES];
     let mut ctrdata = [0; ENTRIES];
     let start = draw_registers(t.random);
     let filled = draw_entries(&mut ctrsource, &mut ctrtarget, &mut ctrdata, start.random);
-    let registers = start.registers;
+    let drawn = start.registers;
+    let registers = with_list_bit(drawn, list);
     let good = is_good(registers);
     let events = events_from(good);
     let mut l = List {
@@ -108,13 +112,14 @@ fn run_lists() -> Tally {
         random: SEED,
         bad_starts: 0,
         events: 0,
+        frozen: 0,
         numbers: [0; 6],
         values: [0; 5],
         answers: 0,
         states: 0,
     };
-    for _ in 0..LISTS {
-        t = run_list(t);
+    for list in 0..LISTS {
+        t = run_list(t, list);
     }
     t
 }
@@ -132,6 +137,7 @@ pub(crate) fn report() {
     at = put_count(&mut out, at, b"  lists ", LISTS);
     at = put_count(&mut out, at, b"  bad starts ", t.bad_starts);
     at = put_count(&mut out, at, b"  events ", t.events);
+    at = put_count(&mut out, at, b"  frozen ", t.frozen);
     let numbers = t.numbers;
     let values = t.values;
     at = put_answers(&mut out, at, numbers, values);

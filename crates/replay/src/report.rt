@@ -5,9 +5,11 @@ use machine::Buffer;
 use machine::Entry;
 use machine::Mode;
 use machine::Registers;
-use machine::regs::depth;
-use machine::regs::physical;
+use machine::depths::depth;
+use machine::depths::physical;
 use recorder::ENTRIES;
+use trace::codes::flag;
+use trace::codes::mode_code;
 
 // How often each number was answered, then how often each value; each with a place for all others.
 pub(crate) const COUNTS: usize = 13;
@@ -55,29 +57,14 @@ pub(crate) fn put_counts(out: &mut [u8], at: usize, counts: &[u64; COUNTS], even
     next
 }
 
-// The place of a mode's name.
-fn mode_place(m: Mode) -> u64 {
-    match m {
-        Mode::U => 0,
-        Mode::S => 1,
-        Mode::M => 2,
-        Mode::VU => 3,
-        Mode::VS => 4,
-    }
-}
-
 fn put_mode(out: &mut [u8], at: usize, m: Mode) -> usize {
     let next = put_line(
         out,
         at,
         b"mode U\nmode S\nmode M\nmode VU\nmode VS",
-        mode_place(m),
+        mode_code(m),
     );
     end_line(out, next)
-}
-
-fn flag(b: bool) -> u64 {
-    if b { 1 } else { 0 }
 }
 
 // The registers but the mode, in the order of their lines.

@@ -2,6 +2,10 @@
 ghost use Prim.Native.Nat.{_+_, _*_, _<_};
 ghost use lib.ListN.{length};
 use crate::Options;
+use crate::input::BLOCK;
+use crate::input::Block;
+use crate::input::read_block;
+use crate::input::row_at;
 use crate::output::end_line;
 use crate::output::flush;
 use crate::problems;
@@ -13,8 +17,8 @@ use crate::report::put_registers;
 use machine::Event;
 use machine::Registers;
 use machine::answers::NUMBERS;
-use machine::answers::number_place;
-use machine::answers::value_place;
+use machine::answers::number_index;
+use machine::answers::value_index;
 use recorder::Answered;
 use recorder::ENTRIES;
 use recorder::steps::reset;
@@ -22,17 +26,8 @@ use recorder::steps::step_in_place;
 use std::num::wrapping_add_u64;
 use trace::Row;
 
-// How many bytes are read at a time.
-const BLOCK: usize = 65536;
-
 // The word index of a row that breaks no rule.
 const WHOLE: u64 = 4;
-
-// A block of a file: how many bytes, and whether a read failed.
-struct Block {
-    count: usize,
-    failed: bool,
-}
 
 // A run under way but for its entries and counts: the registers, whether the answers are asked for,
 // the place on the page, the rows run, the word that broke a rule (or WHOLE), the bytes left over,
@@ -46,37 +41,6 @@ struct Run {
     left: u64,
     failed: bool,
     is_going: bool,
-}
-
-fn widened(byte: u8) -> u64 {
-    byte as u64
-}
-
-// The word at a byte of the input.
-fn word_at(input: &[u8], at: usize) -> u64
-    requires { ⌜ at + 7 < length (now input) ⌝ }
-{
-    widened(input[at])
-        | (widened(input[at + 1]) << 8)
-        | (widened(input[at + 2]) << 16)
-        | (widened(input[at + 3]) << 24)
-        | (widened(input[at + 4]) << 32)
-        | (widened(input[at + 5]) << 40)
-        | (widened(input[at + 6]) << 48)
-        | (widened(input[at + 7]) << 56)
-}
-
-// Row i of the input.
-fn row_at(input: &[u8], i: usize) -> Row
-    requires { ⌜ 32 * i + 31 < length (now input) ⌝ }
-{
-    let at = 32 * i;
-    trace::rows::decode(
-        word_at(input, at),
-        word_at(input, at + 8),
-        word_at(input, at + 16),
-        word_at(input, at + 24),
-    )
 }
 
 // Whether the value answered tells what was recorded.
@@ -98,9 +62,9 @@ fn count(counts: &mut [u64; COUNTS], place: u64)
 
 // An answer among the counts of numbers and, of a transfer that is answered, of values.
 fn count_answer(counts: &mut [u64; COUNTS], transfer: bool, number: u64, value: u64) {
-    count(counts, number_place(number));
+    count(counts, number_index(number));
     if transfer && number == 0 {
-        count(counts, NUMBERS + 1 + value_place(value));
+        count(counts, NUMBERS + 1 + value_index(value));
     }
 }
 
@@ -189,26 +153,6 @@ fn run_rows(
         i += 1;
     }
     next
-}
-
-// Reads until the buffer is full, the file ends or a read fails.
-fn read_block(fd: i32, input: &mut [u8]) -> Block {
-    let mut count = 0;
-    while count < input.len() {
-        let got = libc::read(fd, &mut input[count..]);
-        let more = io::count(got, &input[count..]);
-        if more == 0 {
-            return Block {
-                count,
-                failed: got < 0,
-            };
-        }
-        count += more;
-    }
-    Block {
-        count,
-        failed: false,
-    }
 }
 
 // The run after the rows of a block.
@@ -323,7 +267,7 @@ fn replay_file(out: &mut [u8], at: usize, name: &[u8], fd: i32, o: Options) -> u
         started(at, o.answers, registers),
     );
     tell_failure(name, run.failed);
-    let mut next = put_run(out, run, &counts, &ctrsource, &ctrtarget, &ctrdata, o.state);
+    let next = put_run(out, run, &counts, &ctrsource, &ctrtarget, &ctrdata, o.state);
     finish(out, next, name, run)
 }
 

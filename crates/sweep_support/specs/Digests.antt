@@ -7,7 +7,7 @@ use Rattle.machine.specs.declared.Entry.{Entry}
 use Rattle.machine.specs.declared.Registers.{Registers}
 use Rattle.machine.specs.declared.Selects.{Selects}
 use Rattle.test_support.specs.Words.{digested}
-use Rattle.sweep_support.specs.Codes.{flagOf, modeCode}
+use Rattle.trace.specs.Codes.{flagOf, modeCode}
 
 -- an answer: its number, then its value
 unfoldable pub withAnswer : ℕ → ℕ → ℕ → ℕ

@@ -1,8 +1,6 @@
 // The digest h with an answer, an entry or registers taken in.
 ghost use mathlib.Core.Path.{_≡_};
 ghost use Rattle.sweep_support.specs.Digests.{withAnswer, withEntry, withControls, withBuffer, withSelects, withEnables, withRegisters};
-use crate::codes::flag;
-use crate::codes::mode_code;
 use machine::Buffer;
 use machine::ControlWords;
 use machine::Enables;
@@ -10,6 +8,8 @@ use machine::Entry;
 use machine::Registers;
 use machine::Selects;
 use test_support::digest;
+use trace::codes::flag;
+use trace::codes::mode_code;
 
 pub fn digest_answer(h: u64, number: u64, value: u64) -> u64
     ensures { λ d. ⌜ d ≡ withAnswer h number value ⌝ }

@@ -1,4 +1,3 @@
-// What the sweeps share: codes of what they choose from, digests of what they saw, and the lines that they print.
-pub mod codes;
+// What the sweeps share: digests of what they saw, and the lines that they print.
 pub mod digests;
 pub mod lines;

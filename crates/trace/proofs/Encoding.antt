@@ -9,8 +9,9 @@ use Rattle.machine.specs.declared.Operation.{Operation}
 use Rattle.machine.specs.declared.Operation.the-variants.{Read, Write, Set, Clear}
 use Rattle.machine.specs.declared.Event.the-variants.{Retired, Trap, TrapReturn, Access, Sctrclr, Host}
 use Rattle.trace.specs.declared.Row.the-variants.{WellFormed}
-use Rattle.trace.specs.Rows.{modeOf, withMode, operationOf, retiredRow, trapRow, returnRow, accessRow, zerosRow, sctrclrRow, hostRow, rowBy, rowOf}
-use Rattle.trace.specs.Encoding.{flagOf, modeCode, operationCode, EveryEvent}
+use Rattle.trace.specs.Codes.{flagOf, modeCode, modeOf, operationCode, operationOf}
+use Rattle.trace.specs.Rows.{hasMode, retiredRow, trapRow, returnRow, accessRow, zerosRow, sctrclrRow, hostRow, rowBy, rowOf}
+use Rattle.trace.specs.Encoding.{EveryEvent}
 
 retired : (taken : Bool) (word pc target : ℕ) → word < 2 ^ 32
     → rowOf (0 + 2 ^ 8 * flagOf taken) word pc target
@@ -22,7 +23,7 @@ retired false word pc target h = rw (lt-ltb _ _ h)
 trap : (m : Mode) (interrupt : Bool) (cause epc handler : ℕ)
     → rowOf (1 + 2 ^ 8 * modeCode m + 2 ^ 11 * flagOf interrupt) cause epc handler
     ≡ WellFormed (Trap (record { mode = m; interrupt = interrupt; cause = cause; epc = epc; handler = handler }))
-unfolding modeOf withMode trapRow rowBy rowOf
+unfolding modeOf hasMode trapRow rowBy rowOf
 trap U true cause epc handler = refl
 trap U false cause epc handler = refl
 trap S true cause epc handler = refl
@@ -36,7 +37,7 @@ trap VS false cause epc handler = refl
 
 trap-return : (m : Mode) (pc target : ℕ)
     → rowOf (2 + 2 ^ 8 * modeCode m) 0 pc target ≡ WellFormed (TrapReturn (record { mode = m; pc = pc; target = target }))
-unfolding modeOf withMode returnRow rowBy rowOf
+unfolding modeOf hasMode returnRow rowBy rowOf
 trap-return U pc target = refl
 trap-return S pc target = refl
 trap-return M pc target = refl

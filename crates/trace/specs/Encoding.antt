@@ -1,32 +1,11 @@
 -- Every event has a row: the words that stand for it, and that they mean it. Proved in proofs/.
 use Prim.Native.Nat.{ℕ, _+_, _*_, _^_, _<_}
 use mathlib.Core.Path.{_≡_}
-use mathlib.Core.Bool.{Bool, true, false}
-use Rattle.machine.specs.declared.Mode.{Mode}
-use Rattle.machine.specs.declared.Mode.the-variants.{U, S, M, VU, VS}
-use Rattle.machine.specs.declared.Operation.{Operation}
-use Rattle.machine.specs.declared.Operation.the-variants.{Read, Write, Set, Clear}
 use Rattle.machine.specs.declared.Event.{Event}
 use Rattle.machine.specs.declared.Event.the-variants.{Retired, Trap, TrapReturn, Access, Sctrclr, Host}
+use Rattle.trace.specs.Codes.{flagOf, modeCode, operationCode}
 use Rattle.trace.specs.Rows.{rowOf}
 use Rattle.trace.specs.declared.Row.the-variants.{WellFormed}
-
-abbrev pub flagOf : Bool → ℕ
-flagOf true = 1
-flagOf false = 0
-
-abbrev pub modeCode : Mode → ℕ
-modeCode U = 0
-modeCode S = 1
-modeCode M = 2
-modeCode VU = 3
-modeCode VS = 4
-
-abbrev pub operationCode : Operation → ℕ
-operationCode Read = 0
-operationCode Write = 1
-operationCode Set = 2
-operationCode Clear = 3
 
 pub record Words : Type 0 where
   pub zero : ℕ

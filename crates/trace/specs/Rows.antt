@@ -5,30 +5,15 @@ use mathlib.Core.Bool.{Bool, _&&_}
 use lib.Dec.{eqb, ltb}
 use Rattle.bits.specs.Choice.{if_then_else_}
 use Rattle.bits.specs.Words.{bitAt, fieldAt}
-use Rattle.machine.specs.declared.Mode.{Mode}
-use Rattle.machine.specs.declared.Mode.the-variants.{U, S, M, VU, VS}
-use Rattle.machine.specs.declared.Operation.{Operation}
-use Rattle.machine.specs.declared.Operation.the-variants.{Read, Write, Set, Clear}
 use Rattle.machine.specs.declared.Event.{Event}
 use Rattle.machine.specs.declared.Event.the-variants.{Retired, Trap, TrapReturn, Access, Sctrclr, Host}
+use Rattle.trace.specs.Codes.{modeOf, operationOf}
 use Rattle.trace.specs.declared.Row.{Row}
 use Rattle.trace.specs.declared.Row.the-variants.{WellFormed, Malformed}
 
--- mode codes: U 0, S 1, M 2, VU 3, VS 4; there are no others
-unfoldable pub modeOf : ℕ → Mode
-modeOf code =
-    if eqb code 0 then U
-    else (if eqb code 1 then S
-    else (if eqb code 2 then M
-    else (if eqb code 3 then VU else VS)))
-
--- word 0 has a mode code in bits 10..8, and no bit from a limit up
-unfoldable pub withMode : ℕ → ℕ → Bool
-withMode w limit = ltb w limit && ltb (fieldAt w 8 3) 5
-
--- operation codes, two bits: read 0, write 1, set 2, clear 3
-unfoldable pub operationOf : ℕ → Operation
-operationOf code = if eqb code 0 then Read else (if eqb code 1 then Write else (if eqb code 2 then Set else Clear))
+-- word 0 has a mode code, 0 to 4, in bits 10..8, and no bit from a limit up
+unfoldable pub hasMode : ℕ → ℕ → Bool
+hasMode w limit = ltb w limit && ltb (fieldAt w 8 3) 5
 
 -- kind 0, a retired word: taken in bit 8; instruction below 2^32, pc, target
 abbrev pub retiredEvent : ℕ → ℕ → ℕ → Bool → Event
@@ -47,7 +32,7 @@ trapEvent w cause epc handler =
 
 unfoldable pub trapRow : ℕ → ℕ → ℕ → ℕ → Row
 trapRow w cause epc handler =
-    if withMode w (2 ^ 12)
+    if hasMode w (2 ^ 12)
     then WellFormed (trapEvent w cause epc handler)
     else Malformed 0
 
@@ -57,7 +42,7 @@ returnEvent w pc target = TrapReturn (record { mode = modeOf (fieldAt w 8 3); pc
 
 unfoldable pub returnRow : ℕ → ℕ → ℕ → ℕ → Row
 returnRow w zero pc target =
-    if withMode w (2 ^ 11)
+    if hasMode w (2 ^ 11)
     then (if eqb zero 0 then WellFormed (returnEvent w pc target) else Malformed 1)
     else Malformed 0
 

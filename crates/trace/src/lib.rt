@@ -1,4 +1,5 @@
 // Traces: rows of four 64-bit words, one to an event (docs/RULES.md, W).
+pub mod codes;
 pub mod rows;
 
 use machine::Event;

@@ -5,8 +5,11 @@ ghost use Prim.Native.Nat.{_^_};
 ghost use lib.Dec.{eqb, ltb};
 ghost use Rattle.bits.specs.Choice.{if_then_else_};
 ghost use Rattle.bits.specs.Words.{bitAt, fieldAt};
-ghost use Rattle.trace.specs.Rows.{modeOf, operationOf, withMode, retiredEvent, trapEvent, returnEvent, accessEvent, hostEvent, retiredRow, trapRow, returnRow, accessRow, zerosRow, sctrclrRow, hostRow, rowBy, rowOf};
+ghost use Rattle.trace.specs.Codes.{modeOf, operationOf};
+ghost use Rattle.trace.specs.Rows.{hasMode, retiredEvent, trapEvent, returnEvent, accessEvent, hostEvent, retiredRow, trapRow, returnRow, accessRow, zerosRow, sctrclrRow, hostRow, rowBy, rowOf};
 use crate::Row;
+use crate::codes::mode_of;
+use crate::codes::operation_of;
 use machine::CsrAccess;
 use machine::Enables;
 use machine::Event;
@@ -22,32 +25,7 @@ fn below(x: u64, limit: u64) -> bool
     x < limit
 }
 
-// The mode of a code.
-fn mode_of(code: u64) -> Mode
-    ensures { λ m. ⌜ m ≡ modeOf code ⌝ }
-{
-    match code {
-        0 => Mode::U,
-        1 => Mode::S,
-        2 => Mode::M,
-        3 => Mode::VU,
-        _ => Mode::VS,
-    }
-}
-
-// The operation of a code.
-fn operation_of(code: u64) -> Operation
-    ensures { λ o. ⌜ o ≡ operationOf code ⌝ }
-{
-    match code {
-        0 => Operation::Read,
-        1 => Operation::Write,
-        2 => Operation::Set,
-        _ => Operation::Clear,
-    }
-}
-
-fn mode_code(w: u64) -> u64
+fn mode_field(w: u64) -> u64
     ensures { λ n. ⌜ n ≡ fieldAt w 8 3 ⌝ }
 {
     bits::field64(w, 8, 3)
@@ -56,12 +34,12 @@ fn mode_code(w: u64) -> u64
 fn is_mode_code(w: u64) -> bool
     ensures { λ b. ⌜ b ≡ ltb (fieldAt w 8 3) 5 ⌝ }
 {
-    below(mode_code(w), 5)
+    below(mode_field(w), 5)
 }
 
 // Whether word 0 has a mode, and no bit set from a limit up.
 fn has_mode(w: u64, limit: u64) -> bool
-    ensures { λ b. ⌜ b ≡ withMode w limit ⌝ }
+    ensures { λ b. ⌜ b ≡ hasMode w limit ⌝ }
 {
     if below(w, limit) {
         is_mode_code(w)
@@ -73,7 +51,7 @@ fn has_mode(w: u64, limit: u64) -> bool
 fn mode_in(w: u64) -> Mode
     ensures { λ m. ⌜ m ≡ modeOf (fieldAt w 8 3) ⌝ }
 {
-    mode_of(mode_code(w))
+    mode_of(mode_field(w))
 }
 
 fn operation_in(w: u64) -> Operation

@@ -6,9 +6,9 @@ use borrow.Author.Tests.{lt-ltb}
 use Rattle.bits.specs.Choice.{if_then_else_}
 use Rattle.classifier.specs.Transfers.{typeOf}
 use Rattle.machine.specs.Answers.{refused}
-use Rattle.machine.specs.Regs.{depthOf}
-use Rattle.machine.proofs.Depths.{depth-pos}
-use Rattle.machine.proofs.Good.{Good, parts, whole}
+use Rattle.machine.specs.Depths.{depthOf}
+use Rattle.machine.proofs.DepthLaws.{depth-pos}
+use Rattle.machine.proofs.GoodLaws.{Good, parts, whole}
 use Rattle.machine.proofs.Places.{places}
 use Rattle.machine.specs.declared.Mode.{Mode}
 use Rattle.machine.specs.declared.Registers.{Registers}

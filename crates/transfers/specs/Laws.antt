@@ -3,9 +3,9 @@ use Prim.Native.Nat.{ℕ}
 use mathlib.Core.Path.{_≡_}
 use mathlib.Core.Bool.{Bool, true, false}
 use Rattle.classifier.specs.declared.Transfer.{Transfer}
-use Rattle.machine.specs.Answers.{answered}
+use Rattle.machine.specs.Answers.{accepted}
 use Rattle.machine.specs.Modes.{onOf}
-use Rattle.machine.specs.Regs.{goodOf}
+use Rattle.machine.specs.Good.{goodOf}
 use Rattle.machine.specs.declared.Registers.{Registers}
 use Rattle.machine.specs.declared.Entry.{Entry}
 use Rattle.machine.specs.declared.RetiredWord.{RetiredWord}
@@ -22,7 +22,7 @@ withReturnPcs t pc target = record { mode = t .mode; pc = pc; target = target }
 
 -- no address of a side that is off reaches a decision, and a word retired in a mode that is off decides nothing
 pub record Hidden (r : Registers) (old : Entry) : Type 0 where
-  pub retired : (t : Transfer) (w : RetiredWord) → onOf r (r .mode) ≡ false → retiredOf r old t w ≡ answered r 0
+  pub retired : (t : Transfer) (w : RetiredWord) → onOf r (r .mode) ≡ false → retiredOf r old t w ≡ accepted r 0
   pub trap-source : (t : TrapTo) (epc : ℕ) → onOf r (r .mode) ≡ false → trapOf r old t ≡ trapOf r old (withPcs t epc (t .handler))
   pub trap-target : (t : TrapTo) (handler : ℕ) → onOf r (t .mode) ≡ false → trapOf r old t ≡ trapOf r old (withPcs t (t .epc) handler)
   pub return-source : (t : ReturnTo) (pc : ℕ)

@@ -2,7 +2,8 @@
 use Prim.Native.Nat.{ℕ, _+_, _*_, _/_, _%_}
 use Rattle.bits.specs.Choice.{if_then_else_}
 use Rattle.machine.specs.Modes.{onOf}
-use Rattle.machine.specs.Regs.{withWrptr, depthOf, physicalOf}
+use Rattle.machine.specs.Regs.{withWrptr}
+use Rattle.machine.specs.Depths.{depthOf, physicalOf}
 use Rattle.machine.specs.declared.Mode.{Mode}
 use Rattle.machine.specs.declared.Registers.{Registers}
 use Rattle.machine.specs.declared.Entry.{Entry}

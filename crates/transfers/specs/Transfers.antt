@@ -3,8 +3,9 @@ use Prim.Native.Nat.{ℕ, _%_}
 use Rattle.bits.specs.Choice.{if_then_else_}
 use Rattle.classifier.specs.Transfers.{typeOf}
 use Rattle.classifier.specs.declared.Transfer.{Transfer}
-use Rattle.machine.specs.Answers.{valueOf, refused, answered, answeredPut}
-use Rattle.machine.specs.Regs.{withMode, withFrozen, depthOf, physicalOf}
+use Rattle.machine.specs.Answers.{valueOf, refused, accepted, acceptedPut}
+use Rattle.machine.specs.Regs.{withMode, withFrozen}
+use Rattle.machine.specs.Depths.{depthOf, physicalOf}
 use Rattle.machine.specs.declared.Mode.{Mode}
 use Rattle.machine.specs.declared.Registers.{Registers}
 use Rattle.machine.specs.declared.Entry.{Entry}
@@ -20,20 +21,20 @@ use Rattle.machine.specs.declared.Outcome.{Outcome}
 use Rattle.machine.specs.declared.Outcome.the-variants.{Nothing, Record, Pop, Swap, Freeze}
 
 -- the physical entry that an outcome is about: logical entry 0 for a pop and a swap, else the one at WRPTR
-unfoldable pub focusOf : Registers → Outcome → ℕ
-focusOf r Nothing = r .buffer .wrptr % depthOf (r .buffer .code)
-focusOf r Record = r .buffer .wrptr % depthOf (r .buffer .code)
-focusOf r Pop = physicalOf (r .buffer .code) (r .buffer .wrptr) 0
-focusOf r Swap = physicalOf (r .buffer .code) (r .buffer .wrptr) 0
-focusOf r Freeze = r .buffer .wrptr % depthOf (r .buffer .code)
+unfoldable pub outcomeFocus : Registers → Outcome → ℕ
+outcomeFocus r Nothing = r .buffer .wrptr % depthOf (r .buffer .code)
+outcomeFocus r Record = r .buffer .wrptr % depthOf (r .buffer .code)
+outcomeFocus r Pop = physicalOf (r .buffer .code) (r .buffer .wrptr) 0
+outcomeFocus r Swap = physicalOf (r .buffer .code) (r .buffer .wrptr) 0
+outcomeFocus r Freeze = r .buffer .wrptr % depthOf (r .buffer .code)
 
 -- an outcome done, with the record e that it would put
 unfoldable pub doneOf : Registers → Entry → Entry → Outcome → Decision
-doneOf r old e Nothing = answered r (valueOf Nothing)
-doneOf r old e Record = answeredPut (advanced r) (valueOf Record) e
-doneOf r old e Pop = answeredPut (retreated r) (valueOf Pop) (popped old)
-doneOf r old e Swap = answeredPut r (valueOf Swap) e
-doneOf r old e Freeze = answered (withFrozen r) (valueOf Freeze)
+doneOf r old e Nothing = accepted r (valueOf Nothing)
+doneOf r old e Record = acceptedPut (advanced r) (valueOf Record) e
+doneOf r old e Pop = acceptedPut (retreated r) (valueOf Pop) (popped old)
+doneOf r old e Swap = acceptedPut r (valueOf Swap) e
+doneOf r old e Freeze = accepted (withFrozen r) (valueOf Freeze)
 
 -- a retired word that is the transfer t
 unfoldable pub retiredOf : Registers → Entry → Transfer → RetiredWord → Decision

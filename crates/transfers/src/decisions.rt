@@ -1,10 +1,10 @@
 // What a retired word, a trap and a trap return decide.
 ghost use mathlib.Core.Path.{_≡_};
 ghost use Rattle.classifier.specs.Transfers.{typeOf};
-ghost use Rattle.machine.specs.Answers.{valueOf, answered, answeredPut};
+ghost use Rattle.machine.specs.Answers.{valueOf, accepted, acceptedPut};
 ghost use Rattle.machine.specs.Regs.{withFrozen};
 ghost use Rattle.transfers.specs.Records.{entryFor, popped, advanced, retreated};
-ghost use Rattle.transfers.specs.Transfers.{focusOf, doneOf, retiredOf, inMode, crossing, takenTrap, trapOf, takenReturn, returnOf};
+ghost use Rattle.transfers.specs.Transfers.{outcomeFocus, doneOf, retiredOf, inMode, crossing, takenTrap, trapOf, takenReturn, returnOf};
 use crate::records::advance;
 use crate::records::entry_for;
 use crate::records::pop;
@@ -20,14 +20,14 @@ use machine::RetiredWord;
 use machine::ReturnTo;
 use machine::TrapTo;
 use machine::Verdict;
-use machine::answers::answer;
-use machine::answers::answer_put;
+use machine::answers::accept;
+use machine::answers::accept_put;
 use machine::answers::refuse;
 use machine::answers::value;
-use machine::regs::physical;
+use machine::depths::physical;
+use machine::depths::wrapped;
 use machine::regs::with_frozen;
 use machine::regs::with_mode;
-use machine::regs::wrapped;
 use qualifying::changes::possible_return;
 use qualifying::changes::possible_trap;
 use qualifying::outcomes::RETURN_TYPE;
@@ -39,7 +39,7 @@ use qualifying::outcomes::trap_type;
 
 // The physical entry that an outcome is about.
 pub fn focus(r: Registers, o: Outcome) -> u64
-    ensures { λ p. ⌜ p ≡ focusOf r o ⌝ }
+    ensures { λ p. ⌜ p ≡ outcomeFocus r o ⌝ }
 {
     match o {
         Outcome::Nothing => wrapped(r.buffer.wrptr, r.buffer.code),
@@ -51,33 +51,33 @@ pub fn focus(r: Registers, o: Outcome) -> u64
 }
 
 fn record(r: Registers, e: Entry) -> Decision
-    ensures { λ d. ⌜ d ≡ answeredPut (advanced r) (valueOf Outcome.Record) e ⌝ }
+    ensures { λ d. ⌜ d ≡ acceptedPut (advanced r) (valueOf Outcome.Record) e ⌝ }
 {
-    answer_put(advance(r), value(Outcome::Record), e)
+    accept_put(advance(r), value(Outcome::Record), e)
 }
 
 fn pop_newest(r: Registers, old: Entry) -> Decision
-    ensures { λ d. ⌜ d ≡ answeredPut (retreated r) (valueOf Outcome.Pop) (popped old) ⌝ }
+    ensures { λ d. ⌜ d ≡ acceptedPut (retreated r) (valueOf Outcome.Pop) (popped old) ⌝ }
 {
-    answer_put(retreat(r), value(Outcome::Pop), pop(old))
+    accept_put(retreat(r), value(Outcome::Pop), pop(old))
 }
 
 fn swap(r: Registers, e: Entry) -> Decision
-    ensures { λ d. ⌜ d ≡ answeredPut r (valueOf Outcome.Swap) e ⌝ }
+    ensures { λ d. ⌜ d ≡ acceptedPut r (valueOf Outcome.Swap) e ⌝ }
 {
-    answer_put(r, value(Outcome::Swap), e)
+    accept_put(r, value(Outcome::Swap), e)
 }
 
 fn freeze(r: Registers) -> Decision
-    ensures { λ d. ⌜ d ≡ answered (withFrozen r) (valueOf Outcome.Freeze) ⌝ }
+    ensures { λ d. ⌜ d ≡ accepted (withFrozen r) (valueOf Outcome.Freeze) ⌝ }
 {
-    answer(with_frozen(r), value(Outcome::Freeze))
+    accept(with_frozen(r), value(Outcome::Freeze))
 }
 
 fn nothing(r: Registers) -> Decision
-    ensures { λ d. ⌜ d ≡ answered r (valueOf Outcome.Nothing) ⌝ }
+    ensures { λ d. ⌜ d ≡ accepted r (valueOf Outcome.Nothing) ⌝ }
 {
-    answer(r, value(Outcome::Nothing))
+    accept(r, value(Outcome::Nothing))
 }
 
 // An outcome done, with the record e that it would put.
@@ -100,7 +100,7 @@ fn retired_entry(t: Transfer, w: RetiredWord) -> Entry
     entry_for(w.pc, w.target, transfer_type(t, w.taken))
 }
 
-// A retired word that is the transfer t.
+// A retired word that is the transfer t. Number 5 is the caller's to look for.
 pub fn retired(r: Registers, old: Entry, t: Transfer, w: RetiredWord) -> Decision
     ensures { λ d. ⌜ d ≡ retiredOf r old t w ⌝ }
 {
@@ -141,7 +141,7 @@ fn take_trap(r: Registers, old: Entry, t: TrapTo) -> Decision
     in_mode(done(r, old, e, trap_outcome(r, t)), m)
 }
 
-// A trap.
+// A trap, possible or not. Number 5 is the caller's to look for.
 pub fn trap(r: Registers, old: Entry, t: TrapTo) -> Decision
     ensures { λ d. ⌜ d ≡ trapOf r old t ⌝ }
 {
@@ -162,7 +162,7 @@ fn take_return(r: Registers, old: Entry, t: ReturnTo) -> Decision
     in_mode(done(r, old, e, return_outcome(r, m)), m)
 }
 
-// A trap return.
+// A trap return, possible or not. Number 5 is the caller's to look for.
 pub fn trap_return(r: Registers, old: Entry, t: ReturnTo) -> Decision
     ensures { λ d. ⌜ d ≡ returnOf r old t ⌝ }
 {

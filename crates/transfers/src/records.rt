@@ -4,10 +4,10 @@ ghost use Rattle.transfers.specs.Records.{entryFor, sidePc, popped, adva
 use machine::Entry;
 use machine::Mode;
 use machine::Registers;
+use machine::depths::physical;
+use machine::depths::wrapped;
 use machine::modes::is_on;
-use machine::regs::physical;
 use machine::regs::with_wrptr;
-use machine::regs::wrapped;
 
 // The entry of a record.
 pub fn entry_for(pc: u64, target: u64, number: u64) -> Entry

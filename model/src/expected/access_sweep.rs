@@ -29,12 +29,17 @@ pub fn access_sweep() -> String {
     modes + &logical_entries()
 }
 
-/// All listed CSR numbers and their neighbours.
+/// All listed CSR numbers and their neighbours, the ends of the ranges, and one that is listed but
+/// for a high bit.
 fn numbers() -> impl Iterator<Item = u64> {
-    (0x14D..=0x158)
+    [0].into_iter()
+        .chain(0x14D..=0x158)
         .chain(0x15E..=0x160)
+        .chain([0x1FF, 0x200])
         .chain(0x24D..=0x258)
+        .chain([0x2FF, 0x300])
         .chain(0x34D..=0x34F)
+        .chain([0xFFF, 0x1_0000_014E])
 }
 
 impl Random {
@@ -50,10 +55,13 @@ impl Random {
     }
 
     /// State `s`, without state enables and selections. Some control words, WRPTRs and depth codes
-    /// are bad.
+    /// are bad, up to the largest there are.
     fn state(&mut self, mode: Mode, s: u64) -> Registers {
         let (mctrctl, vsctrctl) = (self.draw(), self.draw());
-        let depth_code = s % 5;
+        let depth_code = match s % 10 {
+            9 => u64::MAX,
+            _ => s % 5,
+        };
         let depth = 16 << depth_code.min(3);
         let wrptr = self.draw();
         Registers {
@@ -69,9 +77,10 @@ impl Random {
                 _ => vsctrctl & SCTRCTL_MASK,
             },
             depth_code,
-            wrptr: match s % 16 {
-                5 => depth,
-                13 => wrptr % 256,
+            wrptr: match s % 32 {
+                5 | 21 => depth,
+                13 => wrptr,
+                29 => u64::MAX,
                 _ => wrptr % depth,
             },
             frozen: s % 2 == 1,
@@ -184,7 +193,7 @@ fn places(depth_code: u64, wrptr: u64) -> impl Iterator<Item = u64> {
 mod tests {
     use super::*;
 
-    /// In each mode: 40 states, 4 settings of the state enables and 13 selections, with 30 numbers
+    /// In each mode: 40 states, 4 settings of the state enables and 13 selections, with 37 numbers
     /// under 4 operations and 2 more events.
     #[test]
     fn each_mode_has_as_many_events() {
@@ -196,6 +205,6 @@ mod tests {
             .map(|count| count.parse().expect("a count"))
             .collect();
         let sums = counts.chunks(6).map(|mode| mode.iter().sum());
-        assert_eq!(Vec::<u32>::from_iter(sums), [40 * 4 * 13 * (30 * 4 + 2); 5]);
+        assert_eq!(Vec::<u32>::from_iter(sums), [40 * 4 * 13 * (37 * 4 + 2); 5]);
     }
 }

@@ -1,18 +1,16 @@
 //! The setups of the sample traces, and what `replay` is fed with: the samples behind their setups,
-//! and a damaged trace.
+//! a trace with every kind of row, and a damaged trace.
 
 use std::io;
 
 use crate::access::{Access, Operation};
-use crate::recorder::Event;
+use crate::recorder::{Event, Retired, Trap, TrapReturn};
+use crate::registers::csr::{MCTRCTL, SCTRCTL, SCTRDEPTH, SISELECT, VSCTRCTL, VSISELECT};
+use crate::registers::Mode;
 use crate::replay::{bytes_of, encode, replay, Printed, Row, ROW_BYTES};
 
 const USER: &[u8] = include_bytes!("../../../examples/traces/user.rows");
 const GUEST: &[u8] = include_bytes!("../../../examples/traces/guest.rows");
-
-const SCTRDEPTH: u64 = 0x15F;
-const VSCTRCTL: u64 = 0x24E;
-const MCTRCTL: u64 = 0x34E;
 
 /// Register numbers, and what M writes there.
 type Setup = &'static [(u64, u64)];
@@ -29,6 +27,13 @@ const CALL_STACK: Setup = &[(SCTRDEPTH, 0), (MCTRCTL, 0x81)];
 /// 128 entries; all five modes on.
 const ALL_MODES: Setup = &[(SCTRDEPTH, 3), (MCTRCTL, 0x7), (VSCTRCTL, 0x3)];
 
+/// The same, and branches that are not taken.
+const ALL_BRANCHES: Setup = &[
+    (SCTRDEPTH, 3),
+    (MCTRCTL, 0x10_0000_0007),
+    (VSCTRCTL, 0x10_0000_0003),
+];
+
 /// One more CSR number than there is.
 const NO_CSR: u64 = 4096;
 
@@ -39,11 +44,12 @@ const ROWS_AFTER: usize = 3;
 /// How many bytes come after the last row.
 const LOOSE_BYTES: usize = 5;
 
-const ARGUMENTS: [&str; 5] = [
+const ARGUMENTS: [&str; 6] = [
     "--answers",
     "--state",
     "user.rows",
     "guest.rows",
+    "kinds.rows",
     "damaged.rows",
 ];
 
@@ -62,6 +68,7 @@ pub(super) fn replay_files() -> Vec<(&'static str, Vec<u8>)> {
     vec![
         ("crates/replay/data/user.rows", user()),
         ("crates/replay/data/guest.rows", guest()),
+        ("crates/replay/data/kinds.rows", kinds()),
         ("crates/replay/data/damaged.rows", damaged()),
         (
             "crates/replay/args",
@@ -99,6 +106,80 @@ fn guest() -> Vec<u8> {
     [&setup(ALL_MODES), GUEST].concat()
 }
 
+/// Every operation, every setting of the host's, every mode as the target of a return and of both
+/// kinds of trap, each branch taken and not, and SCTRCLR: each so that the answers or the history
+/// tell it from the others.
+fn kinds() -> Vec<u8> {
+    let mut rows = vec![
+        access(Operation::Write, SISELECT, 0x20F),
+        access(Operation::Set, SISELECT, 0x0F0),
+        access(Operation::Clear, SISELECT, 0x00C),
+        access(Operation::Read, SISELECT, 0),
+        retired(true, 0x9000),
+        encode(Event::Sctrclr),
+        retired(true, 0x9100),
+    ];
+    for (mstateen0_ctr, hstateen0_ctr) in
+        [(false, false), (false, true), (true, false), (true, true)]
+    {
+        rows.extend([
+            encode(Event::Host {
+                mstateen0_ctr,
+                hstateen0_ctr,
+            }),
+            trap_return(Mode::S, 0xA000),
+            access(Operation::Read, SCTRCTL, 0),
+            trap_return(Mode::VS, 0xA100),
+            access(Operation::Read, SCTRCTL, 0),
+            trap(Mode::M, false, 0xA200),
+        ]);
+    }
+    // What may be read tells the mode.
+    let reads = [SISELECT, VSISELECT, MCTRCTL].map(|csr| access(Operation::Read, csr, 0));
+    for mode in Mode::ALL {
+        rows.push(trap_return(mode, 0xB000));
+        rows.extend(reads);
+        rows.push(trap(Mode::M, true, 0xB100));
+        for (is_interrupt, pc) in [(false, 0xB200), (true, 0xB300)] {
+            rows.extend([
+                trap_return(Mode::VU, pc),
+                trap(mode, is_interrupt, pc + 0x40),
+            ]);
+            rows.extend(reads);
+            rows.push(trap(Mode::M, true, pc + 0x80));
+        }
+    }
+    rows.extend([retired(false, 0xC000), retired(true, 0xC100)]);
+    [setup(ALL_BRANCHES), bytes_of(rows)].concat()
+}
+
+fn retired(taken: bool, pc: u64) -> Row {
+    encode(Event::Retired(Retired {
+        word: 0x0000_0063,
+        pc,
+        target: pc + 8,
+        taken,
+    }))
+}
+
+fn trap(target_mode: Mode, is_interrupt: bool, epc: u64) -> Row {
+    encode(Event::Trap(Trap {
+        target_mode,
+        is_interrupt,
+        cause: 2,
+        epc,
+        handler: epc + 0x10,
+    }))
+}
+
+fn trap_return(target_mode: Mode, pc: u64) -> Row {
+    encode(Event::TrapReturn(TrapReturn {
+        target_mode,
+        pc,
+        target: pc + 0x20,
+    }))
+}
+
 /// A row that is malformed, and after it rows and loose bytes that are not looked at any more.
 fn damaged() -> Vec<u8> {
     let (before, after) = GUEST.split_at(ROWS_BEFORE * ROW_BYTES);
@@ -107,13 +188,14 @@ fn damaged() -> Vec<u8> {
     [&setup(ALL_MODES), before, &malformed, after].concat()
 }
 
-/// What `replay` prints, run where its three traces are.
+/// What `replay` prints, run where its traces are.
 fn printed() -> Printed {
-    let traces = [user(), guest(), damaged()];
+    let traces = [user(), guest(), kinds(), damaged()];
     let open = |name: &str| match name {
         "user.rows" => Ok(&traces[0][..]),
         "guest.rows" => Ok(&traces[1][..]),
-        "damaged.rows" => Ok(&traces[2][..]),
+        "kinds.rows" => Ok(&traces[2][..]),
+        "damaged.rows" => Ok(&traces[3][..]),
         _ => Err(io::ErrorKind::NotFound.into()),
     };
     replay(&ARGUMENTS.map(String::from), open)
@@ -122,6 +204,7 @@ fn printed() -> Printed {
 #[cfg(test)]
 mod tests {
     use super::*;
+    use std::collections::BTreeSet;
 
     fn report_of(setup_writes: Setup, trace: &[u8]) -> String {
         let bytes = [&setup(setup_writes), trace].concat();
@@ -176,6 +259,49 @@ mod tests {
                 "0x8040003c -> 0x8040015c direct call"
             ]
         );
+    }
+
+    /// Settings of word 0 that no answer tells from each other: traps to U and to VU, which answer 4
+    /// in every mode, and hstateen0.CTR while mstateen0.CTR is 0.
+    const ALIKE: [&[u16]; 2] = [&[0x001, 0x301, 0x801, 0xB01], &[0x005, 0x205]];
+
+    /// Each row stands for something else: with any two settings of word 0 exchanged, the report
+    /// differs, unless they are alike.
+    #[test]
+    fn kinds_tell_codes_from_each_other() {
+        let report = |bytes: &[u8]| {
+            let arguments = ["--answers", "--state", "trace"].map(String::from);
+            replay(&arguments, |_| Ok(bytes)).stdout
+        };
+        let bytes = kinds();
+        let rows = || bytes.chunks_exact(ROW_BYTES);
+        let heads: BTreeSet<u16> = rows().map(head).collect();
+        for first in &heads {
+            for second in heads.range(first + 1..) {
+                let exchanged: Vec<u8> = rows()
+                    .flat_map(|row| {
+                        let mut row = row.to_vec();
+                        let head = match head(&row) {
+                            head if head == *first => *second,
+                            head if head == *second => *first,
+                            head => head,
+                        };
+                        row[..2].copy_from_slice(&head.to_le_bytes());
+                        row
+                    })
+                    .collect();
+                let is_told = report(&exchanged) != report(&bytes);
+                let are_alike = ALIKE
+                    .iter()
+                    .any(|alike| alike.contains(first) && alike.contains(second));
+                assert_eq!(is_told, !are_alike, "{first:#x} and {second:#x}");
+            }
+        }
+        assert_eq!(heads.len(), 2 + 10 + 5 + 4 + 1 + 4);
+    }
+
+    fn head(row: &[u8]) -> u16 {
+        u16::from_le_bytes([row[0], row[1]])
     }
 
     #[test]

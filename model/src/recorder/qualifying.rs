@@ -16,7 +16,8 @@ const MTE: u64 = 1 << 9;
 const BPFRZ: u64 = 1 << 11;
 const LCOFIFRZ: u64 = 1 << 12;
 
-/// Types and inhibits have the same order: the bit of type 1, EXCINH, is bit 33, and so on.
+/// Types and their bits have the same order: that of type 1, EXCINH, is bit 33, and so on. All of
+/// them inhibit but that of type 4, NTBREN.
 const INHIBITS: u32 = 32;
 
 const BREAKPOINT: u64 = 3;

@@ -4,7 +4,8 @@ use crate::access::{Answer, GRANTED};
 use crate::recorder::{Event, Machine};
 use crate::registers::{Entry, Register, Registers};
 
-/// What the numbers of answers mean.
+/// What the numbers of answers mean. A selection outside the window has the words of an unlisted
+/// CSR number.
 const NUMBERS: [&str; 6] = [
     "answered",
     "illegal instruction",

@@ -8,13 +8,12 @@ use model::access::{Access, Operation};
 use model::digest::{xorshift64, SEED};
 use model::expected::random_events;
 use model::recorder::{Event, Machine, Trap, TrapReturn};
+use model::registers::csr::SCTRSTATUS;
 use model::registers::Mode;
 use model::replay::{bytes_of, decode, encode, row_of};
 
 /// How many events a piece has, its setup apart.
 const PIECE: usize = 2000;
-
-const SCTRSTATUS: u64 = 0x14F;
 
 /// A sample trace: its events with the mode that each comes in, and the setups that suit it.
 struct Sample {

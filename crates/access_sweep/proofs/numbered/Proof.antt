@@ -5,10 +5,10 @@ use Rattle.access_sweep.proofs.numbered.Statement.{statement}
 use Rattle.access_sweep.proofs.numbered.Tie as tie
 
 abbrev Inv-loop : tie.InvT-loop
-Inv-loop r next₀ k₀ next k = k ≤ 30
+Inv-loop r next₀ k₀ next k = k ≤ 37
 
 abbrev μ-loop : tie.MeasureT-loop
-μ-loop r next₀ k₀ next k = 30 - k
+μ-loop r next₀ k₀ next k = 37 - k
 
 pub numbered-spec : {M : Type 1} → statement M
 numbered-spec =

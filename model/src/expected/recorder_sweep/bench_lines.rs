@@ -2,16 +2,8 @@
 
 use crate::access::{Access, Operation};
 use crate::recorder::{Event, Machine, Retired, Trap, TrapReturn};
-use crate::registers::Mode::{self, M, S, U, VS};
-
-const SCTRCTL: u64 = 0x14E;
-const SCTRSTATUS: u64 = 0x14F;
-const SISELECT: u64 = 0x150;
-const SIREG: u64 = 0x151;
-const SIREG2: u64 = 0x152;
-const SIREG3: u64 = 0x153;
-const SCTRDEPTH: u64 = 0x15F;
-const MCTRCTL: u64 = 0x34E;
+use crate::registers::csr::*;
+use crate::registers::Mode::{self, M, S, U, VS, VU};
 
 const JAL: Event = Event::Retired(Retired {
     word: 0x0000_00ef,
@@ -108,6 +100,7 @@ pub(super) fn bench_lines() -> String {
     add_status_and_depth(&mut bench);
     add_traps(&mut bench);
     add_emulated_return(&mut bench);
+    add_guests(&mut bench);
     bench.text
 }
 
@@ -205,12 +198,53 @@ fn add_emulated_return(bench: &mut Bench) {
     bench.line_after("sctrstatus after it under RASEMU", &[read(SCTRSTATUS)]);
 }
 
+/// Where another implementation departs from the ratified text (docs/PEERS.md).
+fn add_guests(bench: &mut Bench) {
+    bench.line(
+        "VU to S with EXCINH in mctrctl alone",
+        &[
+            write(VSCTRCTL, 1),
+            write(MCTRCTL, 2 | 1 << 33),
+            return_to(VU),
+            trap_to(S),
+        ],
+    );
+    bench.line(
+        "VS to S with STE and without VSTE",
+        &[
+            host(true, false),
+            write(VSCTRCTL, 2),
+            write(MCTRCTL, 1 << 8),
+            return_to(VS),
+            trap_to(S),
+        ],
+    );
+    bench.line_after(
+        "ctrtarget of that trap",
+        &[write(SISELECT, 0x200), read(SIREG2)],
+    );
+    bench.line(
+        "S reads sireg in the window with mstateen0.CTR 0",
+        &[write(SISELECT, 0x200), return_to(S), read(SIREG)],
+    );
+    bench.line(
+        "VS reads sireg in the window with hstateen0.CTR 0",
+        &[
+            host(true, false),
+            write(VSISELECT, 0x200),
+            return_to(VS),
+            read(SIREG),
+        ],
+    );
+    bench.line("VU reads siselect", &[return_to(VU), read(SISELECT)]);
+}
+
 #[cfg(test)]
 mod tests {
     use super::*;
 
     /// Number and value of each line: refusals of VS, what is read back, records and the pop.
-    const PUBLISHED: [(u8, u64); 23] = [
+    const PUBLISHED: [(u8, u64); 29] = [
         (1, 0),
         (2, 0),
         (0, 0xABCD),
@@ -234,6 +268,12 @@ mod tests {
         (0, 2),
         (0, 0x1234),
         (0, 15),
+        (0, 1),
+        (0, 1),
+        (0, 0),
+        (1, 0),
+        (2, 0),
+        (2, 0),
     ];
 
     #[test]

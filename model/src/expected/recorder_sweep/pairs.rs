@@ -3,6 +3,7 @@
 
 use std::mem;
 
+use super::draw::address;
 use super::{with_answer, with_state};
 use crate::access::Answer;
 use crate::expected::random::Random;
@@ -11,8 +12,15 @@ use crate::registers::Mode;
 
 const PAIRS: u32 = 4000;
 
-/// How many events the lists of a pair have in common; some of these may be struck.
-const TURNS: u32 = 16;
+/// How many events the lists of a pair have in common; some of these may be struck. By a random
+/// number, so that lists may be empty or be struck to nothing.
+fn turns(n: u64) -> u32 {
+    match n % 8 {
+        0 => 0,
+        1 => 1,
+        _ => 16,
+    }
+}
 
 /// One run of a pair. Words retired in a mode that is off are struck.
 struct Run {
@@ -63,6 +71,8 @@ impl Run {
 struct Tally {
     bad_starts: u32,
     unequal_lengths: u32,
+    empty: u32,
+    struck_to_nothing: u32,
     words_struck: u32,
     addresses_differed: u32,
     events_left: u32,
@@ -88,6 +98,10 @@ impl Tally {
     }
 
     fn add_ends(&mut self, a: &Run, b: &Run) {
+        for run in [a, b] {
+            self.empty += u32::from(run.events == 0);
+            self.struck_to_nothing += u32::from(run.events > 0 && run.events == run.struck);
+        }
         self.unequal_lengths += u32::from(a.events != b.events);
         self.words_struck += a.struck + b.struck;
         self.end_states_unequal += u32::from(a.machine != b.machine);
@@ -98,6 +112,8 @@ impl Tally {
         let counts = [
             ("bad starts", self.bad_starts),
             ("unequal lengths", self.unequal_lengths),
+            ("empty lists", self.empty),
+            ("struck to nothing", self.struck_to_nothing),
             ("words struck", self.words_struck),
             ("addresses differed", self.addresses_differed),
             ("events left", self.events_left),
@@ -126,18 +142,23 @@ fn add_pair(tally: &mut Tally, random: &mut Random) {
     let start = random.machine();
     tally.bad_starts += u32::from(start.registers.is_bad());
     let (mut a, mut b) = (Run::new(start.clone()), Run::new(start));
-    for _ in 0..TURNS {
-        let n = random.draw();
-        a.retire_words(random, n % 4);
-        b.retire_words(random, n / 4 % 4);
-
+    for _ in 0..turns(random.draw()) {
+        retire_words(&mut a, &mut b, random);
         let event = random.event(a.mode());
         let mut other = event;
-        let addresses = random.draw_all();
+        let addresses = random.draw_all().map(address);
         tally.addresses_differed += replace_addresses(&mut other, addresses, &a, &b);
         tally.add_answers((a.step(event), b.step(other)));
     }
+    retire_words(&mut a, &mut b, random);
     tally.add_ends(&a, &b);
+}
+
+/// Words that each run has alone.
+fn retire_words(a: &mut Run, b: &mut Run, random: &mut Random) {
+    let n = random.draw();
+    a.retire_words(random, n % 4);
+    b.retire_words(random, n / 4 % 4);
 }
 
 /// Replaces the addresses whose side is off in both runs, and tells how many of them differ now.

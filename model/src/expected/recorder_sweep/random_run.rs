@@ -4,8 +4,9 @@ use super::{with_answer, with_state};
 use crate::access::Answer;
 use crate::expected::random::Random;
 use crate::recorder::{Event, Machine};
+use crate::registers::Registers;
 
-const LISTS: u32 = 1000;
+const LISTS: u64 = 1000;
 
 /// How many events a list has.
 const EVENTS: u32 = 400;
@@ -13,12 +14,13 @@ const EVENTS: u32 = 400;
 /// How many it has from a bad state, where all events have the same answer.
 const EVENTS_IF_BAD: u32 = 40;
 
-/// How often each number was answered and each value, and digests of answers and of the states
+/// How many events met FROZEN, how often each number was answered and each value, and digests of answers and of the states
 /// after them.
 #[derive(Default)]
 struct Tally {
     bad_starts: u32,
     events: u32,
+    frozen: u32,
     numbers: [u32; 6],
     values: [u32; 5],
     answers: u64,
@@ -39,6 +41,7 @@ impl Tally {
     fn lines(&self) -> String {
         let mut text = format!("  bad starts {}\n", self.bad_starts);
         text += &format!("  events {}\n", self.events);
+        text += &format!("  frozen {}\n", self.frozen);
         for (number, count) in self.numbers.iter().enumerate() {
             text += &format!("  number {number} {count}\n");
         }
@@ -53,19 +56,30 @@ impl Tally {
 pub(super) fn random_run() -> String {
     let mut random = Random::from_seed();
     let mut tally = Tally::default();
-    for _ in 0..LISTS {
-        add_list(&mut tally, &mut random);
+    for list in 0..LISTS {
+        add_list(&mut tally, &mut random, list);
     }
     format!("random run\n  lists {LISTS}\n{}", tally.lines())
 }
 
-fn add_list(tally: &mut Tally, random: &mut Random) {
+fn add_list(tally: &mut Tally, random: &mut Random, list: u64) {
     let mut machine = random.machine();
+    set_bit(&mut machine.registers, list);
     let is_bad = machine.registers.is_bad();
     tally.bad_starts += u32::from(is_bad);
     for _ in 0..if is_bad { EVENTS_IF_BAD } else { EVENTS } {
         let event = random.event(machine.registers.mode);
+        tally.frozen += u32::from(machine.registers.frozen);
         let answer = machine.step(event);
         tally.add(event, answer, &machine);
+    }
+}
+
+/// The first lists set each single bit of the two control words in turn, stray or not.
+fn set_bit(registers: &mut Registers, list: u64) {
+    match list {
+        0..=63 => registers.mctrctl |= 1 << list,
+        64..=127 => registers.vsctrctl |= 1 << (list - 64),
+        _ => {}
     }
 }

@@ -5,18 +5,14 @@ use std::iter;
 use crate::access::{Access, Operation};
 use crate::expected::random::Random;
 use crate::recorder::{Event, Machine, Trap};
+use crate::registers::csr::{MCTRCTL, SCTRDEPTH, SCTRSTATUS, VSCTRCTL};
 use crate::registers::Mode;
 
 /// How many events are drawn before recording is switched on again.
 const STRETCH: usize = 64;
 
-const SCTRSTATUS: u64 = 0x14F;
-const SCTRDEPTH: u64 = 0x15F;
-const VSCTRCTL: u64 = 0x24E;
-const MCTRCTL: u64 = 0x34E;
-
-/// Control words: all switches, and with them RASEMU, the external bits, or NTBREN and the bits
-/// that freeze. vsctrctl leaves out what it doesn't have.
+/// Control words: all switches, and with them RASEMU, the external bits, or these with NTBREN and
+/// the bits that freeze. vsctrctl leaves out what it doesn't have.
 const CONTROLS: [u64; 4] = [0x7, 0x87, 0x307, 0x10_0000_1B07];
 
 /// Events without end, for a run from any good state. Drawn events would soon freeze the recorder or
@@ -35,7 +31,13 @@ fn stretch(random: &mut Random) -> Vec<Event> {
         machine.step(event);
         events.push(event);
     }
+    events.retain(has_row);
     events
+}
+
+/// Whether a row can hold the event: CSR numbers there are below 4096.
+fn has_row(event: &Event) -> bool {
+    !matches!(event, Event::Access(access) if access.csr >= 4096)
 }
 
 /// Enters M, and from there writes all that recording depends on.

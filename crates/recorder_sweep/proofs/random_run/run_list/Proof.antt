@@ -5,10 +5,10 @@ use Rattle.recorder_sweep.proofs.random_run.run_list.Statement.{stateme
 use Rattle.recorder_sweep.proofs.random_run.run_list.Tie as tie
 
 abbrev Inv-loop : tie.InvT-loop
-Inv-loop ctrsource₀ ctrtarget₀ ctrdata₀ filled good events l₀ counter₀ ctrsource ctrtarget ctrdata l counter = counter ≤ events
+Inv-loop list ctrsource₀ ctrtarget₀ ctrdata₀ filled good events l₀ counter₀ ctrsource ctrtarget ctrdata l counter = counter ≤ events
 
 abbrev μ-loop : tie.MeasureT-loop
-μ-loop ctrsource₀ ctrtarget₀ ctrdata₀ filled good events l₀ counter₀ ctrsource ctrtarget ctrdata l counter = events - counter
+μ-loop list ctrsource₀ ctrtarget₀ ctrdata₀ filled good events l₀ counter₀ ctrsource ctrtarget ctrdata l counter = events - counter
 
 pub run-list-spec : {M : Type 1} → statement M
 run-list-spec =
@@ -16,6 +16,7 @@ run-list-spec =
     (tie.spec
     Inv-loop
     μ-loop
+    (λ c κs. tt)
     (λ c κs. tt)
     (λ c κs. tt)
     (λ c κs. tt)

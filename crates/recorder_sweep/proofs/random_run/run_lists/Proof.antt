@@ -5,10 +5,10 @@ use Rattle.recorder_sweep.proofs.random_run.run_lists.Statement.{statem
 use Rattle.recorder_sweep.proofs.random_run.run_lists.Tie as tie
 
 abbrev Inv-loop : tie.InvT-loop
-Inv-loop t₀ counter₀ t counter = counter ≤ 1000
+Inv-loop t₀ list₀ t list = list ≤ 1000
 
 abbrev μ-loop : tie.MeasureT-loop
-μ-loop t₀ counter₀ t counter = 1000 - counter
+μ-loop t₀ list₀ t list = 1000 - list
 
 pub run-lists-spec : {M : Type 1} → statement M
 run-lists-spec =

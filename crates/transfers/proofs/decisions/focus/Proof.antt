@@ -1,11 +1,11 @@
 -- `transfers::decisions::focus` meets its contract. Assumes nothing.
-use Rattle.transfers.specs.Transfers.{focusOf}
+use Rattle.transfers.specs.Transfers.{outcomeFocus}
 use borrow.Author.Needs.{needs}
 use Rattle.transfers.proofs.decisions.focus.Statement.{statement}
 use Rattle.transfers.proofs.decisions.focus.Tie as tie
 
 pub focus-spec : {M : Type 1} → statement M
-unfolding focusOf
+unfolding outcomeFocus
 focus-spec =
     tie.close
     (tie.spec

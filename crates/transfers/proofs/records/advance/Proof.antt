@@ -1,5 +1,5 @@
 -- `transfers::records::advance` meets its contract. Assumes nothing.
-use Rattle.machine.proofs.Depths.{wrapped-lt}
+use Rattle.machine.proofs.DepthLaws.{wrapped-lt}
 use Rattle.transfers.specs.Records.{advanced}
 use native.Mathlib.Omega.{arith}
 use Rattle.transfers.proofs.records.advance.Statement.{statement}
