@@ -273,7 +273,7 @@ fn access(c: u64, w: u64, z: u64) -> Event {
     })
 }
 
-// FROZEN cleared, so that what was frozen goes on, with WRPTR anywhere.
+// A write to sctrstatus that clears FROZEN, so that what was frozen goes on, with WRPTR anywhere.
 fn thaw(z: u64) -> Event {
     Event::Access(CsrAccess {
         operation: Operation::Write,

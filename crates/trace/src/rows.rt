@@ -1,6 +1,5 @@
 // A row: word 0 has the kind in bits 7..0 and flags above, words 1 to 3 the event's numbers.
 ghost use mathlib.Core.Path.{_≡_};
-ghost use mathlib.Core.Bool.{_&&_};
 ghost use Prim.Native.Nat.{_^_};
 ghost use lib.Dec.{eqb, ltb};
 ghost use Rattle.bits.specs.Choice.{if_then_else_};

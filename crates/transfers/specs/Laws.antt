@@ -1,7 +1,7 @@
 -- What holds of transfers. Proved in proofs/.
 use Prim.Native.Nat.{ℕ}
 use mathlib.Core.Path.{_≡_}
-use mathlib.Core.Bool.{Bool, true, false}
+use mathlib.Core.Bool.{true, false}
 use Rattle.classifier.specs.declared.Transfer.{Transfer}
 use Rattle.machine.specs.Answers.{accepted}
 use Rattle.machine.specs.Modes.{onOf}

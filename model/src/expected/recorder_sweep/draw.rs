@@ -259,7 +259,7 @@ fn cause(code: u64, z: u64) -> u64 {
     }
 }
 
-/// FROZEN cleared, so that what was frozen goes on, with WRPTR anywhere.
+/// A write that clears FROZEN, so that what was frozen goes on, with WRPTR anywhere.
 fn thaw(z: u64) -> Event {
     Event::Access(Access {
         operation: Operation::Write,
