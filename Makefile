@@ -12,7 +12,7 @@ quietly = mkdir -p target && { $(1) >target/make.log 2>&1 || { cat target/make.l
 help: ## list the targets
 	@sed -n 's/^\([a-z-]*\):.*## /\1\t/p' Makefile | expand -t 12
 
-demo: program ## replay a sample trace and print its branch history (proves first: about four minutes)
+demo: program ## replay a sample trace and print its branch history (proves first: about five minutes)
 	@mkdir -p target/demo
 	@sh examples/demo.sh target/bin/replay target/demo
 
@@ -43,7 +43,7 @@ expected: ## write the programs' expected output anew, from the model
 	@cd model && $(CARGO) run --release --offline --quiet --bin expected -- --write
 
 program:
-	@echo "Proving and building replay (about four minutes, nothing if it is built already) ..."
+	@echo "Proving and building replay (about five minutes, nothing if it is built already) ..."
 	@$(call quietly,rt check replay)
 
 archive:

@@ -4,6 +4,7 @@
 mod access_sweep;
 mod random;
 mod recorder_sweep;
+mod replay_sweep;
 mod trace_sweep;
 mod traces;
 
@@ -13,6 +14,7 @@ use std::path::{Path, PathBuf};
 
 pub use self::access_sweep::access_sweep;
 pub use self::recorder_sweep::{random_events, recorder_sweep};
+pub use self::replay_sweep::{replay_sweep, replay_sweep_input};
 pub use self::trace_sweep::trace_sweep;
 use self::traces::{replay_files, setup_files};
 use crate::classifier::{name, transfer_type};
@@ -36,6 +38,8 @@ pub fn files() -> Vec<(&'static str, Vec<u8>)> {
             "crates/recorder_sweep/stdout",
             recorder_sweep().into_bytes(),
         ),
+        ("crates/replay_sweep/stdin", replay_sweep_input()),
+        ("crates/replay_sweep/stdout", replay_sweep().into_bytes()),
     ];
     files.extend(setup_files());
     files.extend(replay_files());

@@ -17,3 +17,4 @@ pub mod expected;
 pub mod recorder;
 pub mod registers;
 pub mod replay;
+pub mod run;

@@ -78,6 +78,7 @@ fn files_are_written_into_folders_that_are_there() {
         "crates/access_sweep",
         "crates/trace_sweep",
         "crates/recorder_sweep",
+        "crates/replay_sweep",
         "crates/replay/data",
         "examples/traces",
     ] {

@@ -43,7 +43,7 @@ use Rattle.access.specs.Writes.{controlWritten, selectWritten, depthWritten, st
 use Rattle.recorder.specs.Decisions.{eventOf, decideOf}
 use Rattle.recorder.specs.Entries.{entryAt, withEntry, appliedOf}
 use Rattle.recorder.specs.Events.{focusOf}
-use Rattle.recorder.specs.Steps.{stateOf, entriesIn, focusIn, decidedOf, stepOf}
+use Rattle.recorder.specs.Steps.{stateOf, entriesIn, appliedTo, decidedOf, stepOf}
 use Rattle.recorder.specs.declared.State.{State}
 use Rattle.demands.specs.States.{depth, Free}
 use Rattle.demands.specs.Registers.{physical, selected, word, wordAt, changedAt, putAt, sctrctlIn, sctrctlTo, siselectToIn, selectedTo, reading, put, written, withZeros, withEnables}
@@ -89,7 +89,7 @@ module _ (s : State) (a : CsrAccess) where
       → (goodOf r ≡ true) × (numberOf (refusalOf r (factsOf r (registerOf (a .number)))) ≡ 0)
       × (stepOf s (Access a) .value ≡ granted .value)
       × (stepOf s (Access a) .state ≡ stateOf (granted .registers) (appliedOf (entriesIn s) (granted .effect) at))
-  unfolding stepOf decidedOf focusIn decideOf eventOf focusOf accessOf accessTo
+  unfolding stepOf appliedTo decidedOf decideOf eventOf focusOf accessOf accessTo
   access-granted = go (goodOf r) refl (isAccepted k) refl
     where
       k : Verdict
@@ -293,7 +293,7 @@ access-done s a h =
 
 -- SCTRCLR and the host
 pub clear-done : (s : State) → stepOf s Sctrclr .number ≡ 0 → (stepOf s Sctrclr .value ≡ 0) × (stepOf s Sctrclr .state ≡ withZeros s)
-unfolding stepOf decidedOf focusIn decideOf eventOf focusOf sctrclrOf appliedOf
+unfolding stepOf appliedTo decidedOf decideOf eventOf focusOf sctrclrOf appliedOf
 clear-done s = go (goodOf (s .registers)) (isAccepted v) refl
   where
     v : Verdict
@@ -303,20 +303,20 @@ clear-done s = go (goodOf (s .registers)) (isAccepted v) refl
     d b c = if b then (if c then acceptedClear (s .registers) else refused (s .registers) v) else refused (s .registers) BadState
 
     go : (b c : Bool) → isAccepted v ≡ c → d b c .number ≡ 0
-        → (d b c .value ≡ 0) × (stateOf (d b c .registers) (appliedOf (entriesIn s) (d b c .effect) (focusIn s Sctrclr)) ≡ withZeros s)
+        → (d b c .value ≡ 0) × (stateOf (d b c .registers) (appliedOf (entriesIn s) (d b c .effect) (focusOf (s .registers) Sctrclr)) ≡ withZeros s)
     go true true e h = (refl, refl)
     go true false e h = absurd (accepts-not v e h)
     go false c e h = absurd (omega (arith, h))
 
 pub host-done : (s : State) (h : Enables) → stepOf s (Host h) .number ≡ 0
     → (stepOf s (Host h) .value ≡ 0) × (stepOf s (Host h) .state ≡ withEnables h s)
-unfolding stepOf decidedOf focusIn decideOf eventOf focusOf hostOf appliedOf
+unfolding stepOf appliedTo decidedOf decideOf eventOf focusOf hostOf appliedOf
 host-done s h = go (goodOf (s .registers))
   where
     d : Bool → Decision
     d b = if b then accepted (Regs.withEnables (s .registers) h) 0 else refused (s .registers) BadState
 
     go : (b : Bool) → d b .number ≡ 0
-        → (d b .value ≡ 0) × (stateOf (d b .registers) (appliedOf (entriesIn s) (d b .effect) (focusIn s (Host h))) ≡ withEnables h s)
+        → (d b .value ≡ 0) × (stateOf (d b .registers) (appliedOf (entriesIn s) (d b .effect) (focusOf (s .registers) (Host h))) ≡ withEnables h s)
     go true z = (refl, refl)
     go false z = absurd (omega (arith, z))

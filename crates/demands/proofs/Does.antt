@@ -1,14 +1,10 @@
 -- What a step does with a retired word, a trap or a trap return that is answered: the value and the state of its outcome. Assumes nothing.
 use Prim.Native.Nat.{ℕ, _%_}
 use mathlib.Core.Path.{_≡_, refl, ap}
-use mathlib.Core.Bool.{Bool, true, false, not, _&&_}
+use mathlib.Core.Bool.{Bool, true, false}
 use native.Mathlib.Nat.{mod-eq-of-lt}
 use native.Mathlib.Omega.{arith}
-use Rattle.bits.specs.Choice.{if_then_else_}
-use Rattle.classifier.specs.Transfers.{transferOf, typeOf}
-use Rattle.qualifying.specs.Filters.{inhibitedOf}
 use Rattle.machine.specs.Answers.{valueOf}
-use Rattle.machine.specs.Modes.{onOf, governingOf}
 use Rattle.machine.specs.Depths.{depthOf, physicalOf}
 use Rattle.machine.specs.declared.Decision.{Decision}
 use Rattle.machine.specs.declared.Entry.{Entry}
@@ -16,7 +12,7 @@ use Rattle.machine.specs.declared.Registers.{Registers}
 use Rattle.machine.specs.declared.RetiredWord.{RetiredWord}
 use Rattle.machine.specs.declared.TrapTo.{TrapTo}
 use Rattle.machine.specs.declared.ReturnTo.{ReturnTo}
-use Rattle.qualifying.specs.Outcomes.{stackOutcome, rasemuOf, onOutcome, retiredOutcome, trapBy, trapOutcome, returnBy, returnOutcome}
+use Rattle.qualifying.specs.Outcomes.{retiredOutcome, trapBy, trapOutcome, returnBy, returnOutcome}
 use Rattle.transfers.specs.Records as Records
 use Rattle.transfers.specs.Records.{entryFor, advanced, retreated}
 use Rattle.transfers.specs.Transfers as Done
@@ -25,8 +21,8 @@ use Rattle.machine.specs.declared.Outcome.{Outcome}
 use Rattle.machine.specs.declared.Outcome.the-variants.{Nothing, Record, Pop, Swap, Freeze}
 use Rattle.recorder.specs.Decisions.{eventOf, decideOf}
 use Rattle.recorder.specs.Entries.{entryAt, withEntry, appliedOf}
-use Rattle.recorder.specs.Events.{transferIn, atWrptr, retiredFocus, focusOf}
-use Rattle.recorder.specs.Steps.{stateOf, entriesIn, focusIn, decidedOf, stepOf}
+use Rattle.recorder.specs.Events.{typeIn, atWrptr, focusOf}
+use Rattle.recorder.specs.Steps.{stateOf, entriesIn, decidedOf, appliedTo, stepOf}
 use Rattle.machine.specs.declared.Event.{Event}
 use Rattle.machine.specs.declared.Event.the-variants.{Retired, Trap, TrapReturn, Access, Sctrclr, Host}
 use Rattle.recorder.specs.declared.State.{State}
@@ -76,13 +72,11 @@ pop-down s =
     ap (λ (w : ℕ). stateOf (wrptrTo w r) (withEntry (entriesIn s) p (withoutV (entryAt (entriesIn s) p))))
     (ap (λ (x : ℕ). x % depth (r .buffer .code)) (omega arith))
 
--- the record of a retired word
-abbrev entryOf : RetiredWord → Entry
-entryOf w = entryFor (w .pc) (w .target) (typeOf (transferOf (w .word)) (w .taken))
-
 retired-does : (s : State) (w : RetiredWord) → Free (s .registers) → (o : Outcome)
-    → Does s (Retired w) (doneOf (s .registers) (entryAt (entriesIn s) (Done.outcomeFocus (s .registers) o)) (entryOf w) o) (Done.outcomeFocus (s .registers) o) o
-unfolding doneOf Done.outcomeFocus appliedOf entryFor advanced retreated Records.popped
+    → (let r = s .registers in
+    let at = Done.outcomeFocus r o in
+    Does s (Retired w) (doneOf r (entryAt (entriesIn s) at) (entryFor (w .pc) (w .target) (typeIn r w)) o) at o)
+unfolding typeIn doneOf Done.outcomeFocus appliedOf entryFor advanced retreated Records.popped
 retired-does s w f Nothing = (refl, refl)
 retired-does s w f Record = (refl, rw (at-pointer (s .registers) f, depth-is (s .registers .buffer .code)))
 retired-does s w f Pop = (refl, rw (at-newest (s .registers)) (pop-down s))
@@ -133,35 +127,18 @@ abbrev pub Steps : State → Event → Type 0
 Steps s e =
     (stepOf s e .value ≡ valueOf (outcomeIn (s .registers) e)) × (stepOf s e .state ≡ stateFor s e (outcomeIn (s .registers) e))
 
--- the entry that a retired word is about is the one that its outcome is about, if that puts one
-retired-at : (s : State) (w : RetiredWord) → Free (s .registers) → (on fr ra inh : Bool)
-    → (let t = transferOf (w .word) in
-    let o = if on && not fr then onOutcome ra inh t else Nothing in
-    let at = if ra then Done.outcomeFocus (s .registers) (stackOutcome t) else atWrptr (s .registers .buffer) in
-    Does s (Retired w) (doneOf (s .registers) (entryAt (entriesIn s) at) (entryOf w) o) at o)
-unfolding onOutcome doneOf Done.outcomeFocus appliedOf
-retired-at s w f true false true inh = retired-does s w f (stackOutcome (transferOf (w .word)))
-retired-at s w f true false false true = (refl, refl)
-retired-at s w f true false false false = retired-does s w f Record
-retired-at s w f true true ra inh = (refl, refl)
-retired-at s w f false fr ra inh = (refl, refl)
-
 retired-steps : (s : State) (w : RetiredWord) → Free (s .registers) → Steps s (Retired w)
-unfolding stepOf decidedOf focusIn decideOf eventOf focusOf retiredFocus transferIn retiredOf retiredOutcome outcomeIn
-retired-steps s w f =
-    let r = s .registers in
-    let m = r .mode in
-    rw (free r .to f)
-    (retired-at s w f (onOf r m) (r .buffer .frozen) (rasemuOf r m m) (inhibitedOf r (governingOf m m) (typeOf (transferOf (w .word)) (w .taken))))
+unfolding stepOf appliedTo decidedOf decideOf eventOf focusOf retiredOf outcomeIn
+retired-steps s w f = let r = s .registers in rw (free r .to f) (retired-does s w f (retiredOutcome r (typeIn r w)))
 
 trap-steps : (s : State) (t : TrapTo) → Free (s .registers) → Traps (s .registers .mode) (t .mode) → Steps s (Trap t)
-unfolding stepOf decidedOf focusIn decideOf eventOf focusOf transferIn trapOf takenTrap crossing entryFor trapOutcome outcomeIn
+unfolding stepOf appliedTo decidedOf decideOf eventOf focusOf trapOf takenTrap crossing entryFor trapOutcome outcomeIn
 trap-steps s t f p =
     let r = s .registers in
     rw (free r .to f, traps (r .mode) (t .mode) .to p, side-is r (r .mode) (t .epc), side-is r (t .mode) (t .handler)) (trap-does s (Trap t) f _ _ _ _ _ _ _ _)
 
 return-steps : (s : State) (t : ReturnTo) → Free (s .registers) → Returns (s .registers .mode) (t .mode) → Steps s (TrapReturn t)
-unfolding stepOf decidedOf focusIn decideOf eventOf focusOf transferIn returnOf takenReturn crossing entryFor returnOutcome outcomeIn
+unfolding stepOf appliedTo decidedOf decideOf eventOf focusOf returnOf takenReturn crossing entryFor returnOutcome outcomeIn
 return-steps s t f p =
     let r = s .registers in
     rw (free r .to f, returns (r .mode) (t .mode) .to p, side-is r (r .mode) (t .pc), side-is r (t .mode) (t .target)) (return-does s (TrapReturn t) f _ _ _ _ _)

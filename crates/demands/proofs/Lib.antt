@@ -13,6 +13,11 @@ pub mod Accesses
 pub mod Determined
 pub mod Demands
 pub mod Demand3
+pub mod Rows
+pub mod Runs
+pub mod Replays
+pub mod Cutting
+pub mod Demand3Rows
 pub mod Changes
 pub mod Computed
 pub mod Parts

@@ -7,7 +7,6 @@ use native.Mathlib.Omega.{arith}
 use borrow.Author.Tests.{eqb-false}
 use Rattle.bits.specs.Choice.{if_then_else_}
 use Rattle.bits.proofs.Cases.{known}
-use Rattle.classifier.specs.declared.Transfer.{Transfer}
 use Rattle.machine.specs.Answers.{numberOf, refused}
 use Rattle.machine.specs.Good.{goodOf}
 use Rattle.machine.specs.declared.Registers.{Registers}
@@ -28,7 +27,8 @@ use Rattle.machine.specs.declared.Outcome.the-variants.{Nothing, Record, Pop, S
 use Rattle.transfers.proofs.Laws.{stays-good}
 use Rattle.recorder.specs.Decisions.{eventOf, decideOf}
 use Rattle.recorder.specs.Entries.{appliedOf}
-use Rattle.recorder.specs.Steps.{decidedOf, stepOf}
+use Rattle.recorder.specs.Events.{typeIn}
+use Rattle.recorder.specs.Steps.{decidedOf, appliedTo, stepOf}
 use Rattle.machine.specs.declared.Event.{Event}
 use Rattle.machine.specs.declared.Event.the-variants.{Retired, Trap, TrapReturn, Access, Sctrclr, Host}
 use Rattle.recorder.specs.declared.State.{State}
@@ -71,26 +71,26 @@ stepped r e d f i l n u =
     (λ z. step f i (eqb-false _ _ z) l n (u (λ h. eqb-false _ _ z (sym n ∙ h))))
     (known (stepNumber r e) 0)
 
-event-line : (r : Registers) (old : Entry) (t : Transfer) (e : Event) → Free r → Line r e (eventOf r old t e)
+event-line : (r : Registers) (old : Entry) (e : Event) → Free r → Line r e (eventOf r old e)
 unfolding eventOf retiredOf trapOf takenTrap returnOf takenReturn hostOf
-event-line r old t (Retired w) f = answered f (λ i. i) refl (done-number r old _ _)
-event-line r old t (Trap x) f =
+event-line r old (Retired w) f = answered f (λ i. i) refl (done-number r old _ _)
+event-line r old (Trap x) f =
     changed r (Trap x) (takenTrap r old x) _ f (done-number r old _ _) (λ i p. i p) (λ i. i) (traps (r .mode) (x .mode)) refl
-event-line r old t (TrapReturn x) f =
+event-line r old (TrapReturn x) f =
     changed r (TrapReturn x) (takenReturn r old x) _ f (done-number r old _ _) (λ i p. i p) (λ i. i) (returns (r .mode) (x .mode)) refl
-event-line r old t (Access a) f =
+event-line r old (Access a) f =
     stepped r (Access a) (accessOf r old a) f (λ i. i) (refusals r (factsOf r (registerOf (a .number))) .no-other)
     (laws .access-number r old a) (laws .refused-access r old a)
-event-line r old t Sctrclr f =
+event-line r old Sctrclr f =
     stepped r Sctrclr (sctrclrOf r) f (λ i. i) (refusals r sctrclrFacts .no-other) (laws .clear-number r) (laws .refused-clear r)
-event-line r old t (Host h) f = answered f (λ i. i) refl refl
+event-line r old (Host h) f = answered f (λ i. i) refl refl
 
-line : (r : Registers) (old : Entry) (t : Transfer) (e : Event) → Line r e (decideOf r old t e)
+line : (r : Registers) (old : Entry) (e : Event) → Line r e (decideOf r old e)
 unfolding decideOf
-line r old t e = go (goodOf r) (free r)
+line r old e = go (goodOf r) (free r)
   where
-    go : (b : Bool) → Decides (Free r) b → Line r e (if b then eventOf r old t e else refused r BadState)
-    go true d = event-line r old t e (d .from refl)
+    go : (b : Bool) → Decides (Free r) b → Line r e (if b then eventOf r old e else refused r BadState)
+    go true d = event-line r old e (d .from refl)
     go false d = bad (no d refl) refl
 
 -- a refusal's number, and that nothing else changes
@@ -173,29 +173,29 @@ module _ (r : Registers) (e : Event) (d : Decision) where
   refusal (answered g i z n) h = absurd (h n)
 
 -- registers free of number 5 stay so
-good-event : (r : Registers) (old : Entry) (t : Transfer) (e : Event) → goodOf r ≡ true → goodOf (eventOf r old t e .registers) ≡ true
+good-event : (r : Registers) (old : Entry) (e : Event) → goodOf r ≡ true → goodOf (eventOf r old e .registers) ≡ true
 unfolding eventOf
-good-event r old t (Retired w) g = stays-good r old .retired t w g
-good-event r old t (Trap x) g = stays-good r old .trap x g
-good-event r old t (TrapReturn x) g = stays-good r old .trap-return x g
-good-event r old t (Access a) g = laws .good-access r old a g
-good-event r old t Sctrclr g = laws .good-clear r g
-good-event r old t (Host h) g = laws .good-host r h g
+good-event r old (Retired w) g = stays-good r old .retired (typeIn r w) w g
+good-event r old (Trap x) g = stays-good r old .trap x g
+good-event r old (TrapReturn x) g = stays-good r old .trap-return x g
+good-event r old (Access a) g = laws .good-access r old a g
+good-event r old Sctrclr g = laws .good-clear r g
+good-event r old (Host h) g = laws .good-host r h g
 
-good-decided : (r : Registers) (old : Entry) (t : Transfer) (e : Event) → goodOf r ≡ true → goodOf (decideOf r old t e .registers) ≡ true
+good-decided : (r : Registers) (old : Entry) (e : Event) → goodOf r ≡ true → goodOf (decideOf r old e .registers) ≡ true
 unfolding decideOf
-good-decided r old t e g = rw g (good-event r old t e g)
+good-decided r old e g = rw g (good-event r old e g)
 
 unchanged-state : (s : State) (e : Event) → Unchanged (s .registers) (decidedOf s e) → (stepOf s e .value ≡ 0) × (stepOf s e .state ≡ s)
-unfolding stepOf appliedOf
+unfolding stepOf appliedTo appliedOf
 unchanged-state s e u = (u .0, rw (u .1, u .2))
 
 pub demand-1 : Demand1 stepOf
-unfolding stepOf decidedOf
+unfolding stepOf appliedTo decidedOf
 demand-1 s e =
     let r = s .registers in
     let d = decidedOf s e in
-    let l : Line r e d = line r _ _ e in
+    let l : Line r e d = line r _ e in
     let k = step-numbers r e in
     record {
       zero = (zero-to r e d l, zero-from r e d l);
@@ -206,5 +206,5 @@ demand-1 s e =
       five = five r e d l;
       no-other = at-most r e d l;
       refused = (λ h. unchanged-state s e (refusal r e d l h));
-      stays-free = (λ f. free _ .from (good-decided r _ _ e (free r .to f)));
+      stays-free = (λ f. free _ .from (good-decided r _ e (free r .to f)));
     }

@@ -7,9 +7,7 @@ use lib.Dec.{eqb}
 use borrow.Author.Tests.{eqb-true}
 use Rattle.bits.specs.Choice.{if_then_else_}
 use Rattle.classifier.specs.Promise.{wordType}
-use Rattle.classifier.specs.Transfers.{transferOf, typeOf}
-use Rattle.classifier.specs.declared.Transfer.{Transfer}
-use Rattle.classifier.specs.declared.Transfer.the-variants.{None, Branch, IndirectCall, DirectCall, IndirectJump, DirectJump, CoroutineSwap, FunctionReturn, OtherIndirectJump, OtherDirectJump}
+use Rattle.classifier.specs.Transfers.{transferOf}
 use Rattle.machine.specs.Modes.{onOf, governingOf}
 use Rattle.qualifying.specs.Filters.{freezesOf, externalOf, inhibitedOf}
 use Rattle.machine.specs.declared.Mode.{Mode}
@@ -19,9 +17,10 @@ use Rattle.machine.specs.declared.RetiredWord.{RetiredWord}
 use Rattle.machine.specs.declared.TrapTo.{TrapTo}
 use Rattle.machine.specs.declared.ReturnTo.{ReturnTo}
 use Rattle.qualifying.specs.Changes.{possibleTrap, possibleReturn}
-use Rattle.qualifying.specs.Outcomes.{stackOutcome, rasemuOf, onOutcome, retiredOutcome, trapBy, trapOutcome, returnBy, returnOutcome}
+use Rattle.qualifying.specs.Outcomes.{stackOutcome, rasemuOf, onOutcome, liveOf, liveOutcome, retiredOutcome, trapBy, trapOutcome, returnBy, returnOutcome}
 use Rattle.machine.specs.declared.Outcome.{Outcome}
 use Rattle.machine.specs.declared.Outcome.the-variants.{Nothing, Record, Pop, Swap, Freeze}
+use Rattle.recorder.specs.Events.{typeIn}
 use Rattle.machine.specs.declared.Event.{Event}
 use Rattle.machine.specs.declared.Event.the-variants.{Retired, Trap, TrapReturn, Access, Sctrclr, Host}
 use Rattle.demands.specs.Transfers.{On, ofSource, RASEMU, trapType, Freezes, Passes, Qualifies, Pops, Swaps}
@@ -34,7 +33,7 @@ use Rattle.demands.proofs.Tests.{mode, rasemu, governing-is, traps, ret
 
 -- what comes of an event, from registers free of number 5
 unfoldable pub outcomeIn : Registers → Event → Outcome
-outcomeIn r (Retired w) = retiredOutcome r (transferOf (w .word)) (w .taken)
+outcomeIn r (Retired w) = retiredOutcome r (typeIn r w)
 outcomeIn r (Trap t) = if possibleTrap (r .mode) (t .mode) then trapOutcome r t else Nothing
 outcomeIn r (TrapReturn t) = if possibleReturn (r .mode) (t .mode) then returnOutcome r (t .mode) else Nothing
 outcomeIn r (Access a) = Nothing
@@ -49,37 +48,12 @@ Says r e Pop = Pops r e
 Says r e Swap = Swaps r e
 Says r e Freeze = Freezes r e
 
--- what RASEMU makes of a transfer, by its type
-abbrev byType : ℕ → Outcome
-byType n =
-    if eqb n 8 then Record
-    else (if eqb n 9 then Record
-    else (if eqb n 13 then Pop
-    else (if eqb n 12 then Swap
-    else Nothing)))
-
-stack-is : (t : Transfer) (taken : Bool) → stackOutcome t ≡ byType (typeOf t taken)
-stack-is None taken = refl
-stack-is Branch true = refl
-stack-is Branch false = refl
-stack-is IndirectCall taken = refl
-stack-is DirectCall taken = refl
-stack-is IndirectJump taken = refl
-stack-is DirectJump taken = refl
-stack-is CoroutineSwap taken = refl
-stack-is FunctionReturn taken = refl
-stack-is OtherIndirectJump taken = refl
-stack-is OtherDirectJump taken = refl
-
 -- each relation gives its outcome
-stacked : (word : ℕ) (taken : Bool) (n : ℕ) → wordType word taken ≡ n → stackOutcome (transferOf word) ≡ byType n
-stacked word taken n h = stack-is (transferOf word) taken ∙ ap byType h
-
 passed : (r : Registers) (t : TrapTo) → Passes r t → freezesOf r t ≡ false
 passed r t p = fails (freezes r t (p .possible)) (p .freezes-not)
 
 pub qualifies-outcome : {r : Registers} {e : Event} → Qualifies r e → outcomeIn r e ≡ Record
-unfolding outcomeIn retiredOutcome onOutcome trapOutcome trapBy returnOutcome returnBy
+unfolding outcomeIn retiredOutcome liveOf liveOutcome onOutcome stackOutcome typeIn trapOutcome trapBy returnOutcome returnBy
 qualifies-outcome {r = r} (retired f m o a) =
     rw (mode r (r .mode) .on o, rasemu r (r .mode) .off m, allowed-of r (r .mode) a, f)
 qualifies-outcome {r = r} (on-to-on {t = t} p m o x a) =
@@ -95,17 +69,17 @@ qualifies-outcome {r = r} (return {t = t} p f m o a) =
     let to = t .mode in
     rw (returns (r .mode) to .to p, rasemu r to .off m, mode r (r .mode) .on o, allowed-of r to a, f)
 qualifies-outcome {r = r} (call {w = w} f m o c) =
-    rw (mode r (r .mode) .on o, rasemu r (r .mode) .on m, f) (⊎-elim (stacked (w .word) (w .taken) 8) (stacked (w .word) (w .taken) 9) c)
+    rw (mode r (r .mode) .on o, rasemu r (r .mode) .on m, f) (⊎-elim (ap stackOutcome) (ap stackOutcome) c)
 
 pub pops-outcome : {r : Registers} {e : Event} → Pops r e → outcomeIn r e ≡ Pop
-unfolding outcomeIn retiredOutcome onOutcome
+unfolding outcomeIn retiredOutcome liveOf liveOutcome onOutcome stackOutcome typeIn
 pops-outcome {r = r} (type-13 {w = w} f m o c) =
-    rw (mode r (r .mode) .on o, rasemu r (r .mode) .on m, f) (stacked (w .word) (w .taken) 13 c)
+    rw (mode r (r .mode) .on o, rasemu r (r .mode) .on m, f) (ap stackOutcome c)
 
 pub swaps-outcome : {r : Registers} {e : Event} → Swaps r e → outcomeIn r e ≡ Swap
-unfolding outcomeIn retiredOutcome onOutcome
+unfolding outcomeIn retiredOutcome liveOf liveOutcome onOutcome stackOutcome typeIn
 swaps-outcome {r = r} (type-12 {w = w} f m o c) =
-    rw (mode r (r .mode) .on o, rasemu r (r .mode) .on m, f) (stacked (w .word) (w .taken) 12 c)
+    rw (mode r (r .mode) .on o, rasemu r (r .mode) .on m, f) (ap stackOutcome c)
 
 pub freezes-outcome : {r : Registers} {e : Event} → Freezes r e → outcomeIn r e ≡ Freeze
 unfolding outcomeIn trapOutcome trapBy
@@ -114,22 +88,23 @@ freezes-outcome {r = r} (LCOFIFRZ {t = t} p i c h) = rw (traps (r .mode) (t .mod
 
 -- and each outcome comes of its relation
 emulated : (r : Registers) (w : RetiredWord) → r .buffer .frozen ≡ false → RASEMU r ≡ 1 → On r (r .mode)
-    → Says r (Retired w) (byType (wordType (w .word) (w .taken)))
-emulated r w f m o = go (eqb n 8) refl (eqb n 9) refl (eqb n 13) refl (eqb n 12) refl
+    → Says r (Retired w) (stackOutcome (wordType (w .word) (w .taken)))
+unfolding stackOutcome
+emulated r w f m o = go (eqb n 8) refl (eqb n 9) refl (eqb n 12) refl (eqb n 13) refl
   where
     n : ℕ
     n = wordType (w .word) (w .taken)
 
-    go : (a : Bool) → eqb n 8 ≡ a → (b : Bool) → eqb n 9 ≡ b → (c : Bool) → eqb n 13 ≡ c → (d : Bool) → eqb n 12 ≡ d
-        → Says r (Retired w) (if a then Record else (if b then Record else (if c then Pop else (if d then Swap else Nothing))))
+    go : (a : Bool) → eqb n 8 ≡ a → (b : Bool) → eqb n 9 ≡ b → (c : Bool) → eqb n 12 ≡ c → (d : Bool) → eqb n 13 ≡ d
+        → Says r (Retired w) (if a then Record else (if b then Record else (if c then Swap else (if d then Pop else Nothing))))
     go true h b i c j d k = call f m o (inl (eqb-true n 8 h))
     go false h true i c j d k = call f m o (inr (eqb-true n 9 i))
-    go false h false i true j d k = type-13 f m o (eqb-true n 13 j)
-    go false h false i false j true k = type-12 f m o (eqb-true n 12 k)
+    go false h false i true j d k = type-12 f m o (eqb-true n 12 j)
+    go false h false i false j true k = type-13 f m o (eqb-true n 13 k)
     go false h false i false j false k = tt
 
-retired-says : (r : Registers) (w : RetiredWord) → Says r (Retired w) (retiredOutcome r (transferOf (w .word)) (w .taken))
-unfolding retiredOutcome onOutcome
+retired-says : (r : Registers) (w : RetiredWord) → Says r (Retired w) (retiredOutcome r (typeIn r w))
+unfolding retiredOutcome liveOf liveOutcome onOutcome typeIn
 retired-says r w = go (onOf r m) refl (r .buffer .frozen) refl (rasemuOf r m m) refl (inhibitedOf r c n) refl
   where
     m : Mode
@@ -138,20 +113,16 @@ retired-says r w = go (onOf r m) refl (r .buffer .frozen) refl (rasemuOf r m m) 
     c : ControlRegister
     c = governingOf m m
 
-    t : Transfer
-    t = transferOf (w .word)
-
     n : ℕ
     n = wordType (w .word) (w .taken)
 
     go : (on : Bool) → onOf r m ≡ on → (fr : Bool) → r .buffer .frozen ≡ fr → (ra : Bool) → rasemuOf r m m ≡ ra
         → (inh : Bool) → inhibitedOf r c n ≡ inh
-        → Says r (Retired w) (if on && not fr then (if ra then stackOutcome t else (if inh then Nothing else Record)) else Nothing)
-    go true o false f true a inh i =
-        subst (Says r (Retired w)) (sym (stack-is t (w .taken))) (emulated r w f (rasemu r m .is-on a) (mode r m .is-on o))
+        → Says r (Retired w) (if on && not fr then (if ra then stackOutcome n else (if inh then Nothing else Record)) else Nothing)
+    go true o false f true a inh i = emulated r w f (rasemu r m .is-on a) (mode r m .is-on o)
     go true o false f false a true i = tt
     go true o false f false a false i =
-        retired f (rasemu r m .is-off a) (mode r m .is-on o) (allows-word r (ofSource r) t (w .taken) (rw (governing-is r m) at i))
+        retired f (rasemu r m .is-off a) (mode r m .is-on o) (allows-word r (ofSource r) (transferOf (w .word)) (w .taken) (rw (governing-is r m) at i))
     go true o true f ra a inh i = tt
     go false o fr f ra a inh i = tt
 

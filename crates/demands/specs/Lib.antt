@@ -5,6 +5,8 @@ pub mod Steps
 pub mod Transfers
 pub mod Demands
 pub mod Demand3
+pub mod Rows
+pub mod Replays
 pub mod Changes
 pub mod Useless
 pub mod CodeRuns

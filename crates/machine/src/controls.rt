@@ -43,7 +43,7 @@ fn place(b: ControlBit) -> u32
 }
 
 // The word that a control register holds.
-fn control_word(r: Registers, c: ControlRegister) -> u64
+pub fn control_word(r: Registers, c: ControlRegister) -> u64
     ensures { λ x. ⌜ x ≡ controlWord r c ⌝ }
 {
     match c {

@@ -1,10 +1,8 @@
 -- When a transfer qualifies: what comes of a retired word, a trap and a trap return.
 use Prim.Native.Nat.{ℕ}
 use mathlib.Core.Bool.{Bool, not, _&&_}
+use lib.Dec.{eqb}
 use Rattle.bits.specs.Choice.{if_then_else_}
-use Rattle.classifier.specs.Transfers.{typeOf}
-use Rattle.classifier.specs.declared.Transfer.{Transfer}
-use Rattle.classifier.specs.declared.Transfer.the-variants.{None, Branch, IndirectCall, DirectCall, IndirectJump, DirectJump, CoroutineSwap, FunctionReturn, OtherIndirectJump, OtherDirectJump}
 use Rattle.machine.specs.Controls.{isSet}
 use Rattle.machine.specs.Modes.{onOf, governingOf}
 use Rattle.machine.specs.declared.Mode.{Mode}
@@ -15,33 +13,34 @@ use Rattle.qualifying.specs.Filters.{freezesOf, externalOf, inhibitedOf}
 use Rattle.machine.specs.declared.Outcome.{Outcome}
 use Rattle.machine.specs.declared.Outcome.the-variants.{Nothing, Record, Pop, Swap, Freeze}
 
--- under RASEMU calls are recorded, a return pops, a swap goes in place, and nothing else is recorded
-abbrev pub stackOutcome : Transfer → Outcome
-stackOutcome None = Nothing
-stackOutcome Branch = Nothing
-stackOutcome IndirectCall = Record
-stackOutcome DirectCall = Record
-stackOutcome IndirectJump = Nothing
-stackOutcome DirectJump = Nothing
-stackOutcome CoroutineSwap = Swap
-stackOutcome FunctionReturn = Pop
-stackOutcome OtherIndirectJump = Nothing
-stackOutcome OtherDirectJump = Nothing
+-- under RASEMU types 8 and 9 are recorded, 13 pops, 12 goes in place, and nothing else is recorded
+unfoldable pub stackOutcome : ℕ → Outcome
+stackOutcome n =
+    if eqb n 8 then Record
+    else (if eqb n 9 then Record
+    else (if eqb n 12 then Swap
+    else (if eqb n 13 then Pop
+    else Nothing)))
 
 -- whether the register that governs a transition has RASEMU
 unfoldable pub rasemuOf : Registers → Mode → Mode → Bool
 rasemuOf r source target = isSet r (governingOf source target) RASEMU
 
--- a retired transfer, in a mode that is on: what RASEMU makes of it, or recorded unless its type is inhibited
-unfoldable pub onOutcome : Bool → Bool → Transfer → Outcome
-onOutcome rasemu inhibited t = if rasemu then stackOutcome t else (if inhibited then Nothing else Record)
+-- a type in a mode that is on: what RASEMU makes of it, or recorded unless inhibited
+unfoldable pub onOutcome : Bool → Bool → ℕ → Outcome
+onOutcome rasemu inhibited n = if rasemu then stackOutcome n else (if inhibited then Nothing else Record)
 
--- a retired word that is the transfer t
-unfoldable pub retiredOutcome : Registers → Transfer → Bool → Outcome
-retiredOutcome r t taken =
-    if onOf r (r .mode) && not (r .buffer .frozen)
-    then onOutcome (rasemuOf r (r .mode) (r .mode)) (inhibitedOf r (governingOf (r .mode) (r .mode)) (typeOf t taken)) t
-    else Nothing
+-- the current mode is on, and nothing is frozen
+unfoldable pub liveOf : Registers → Bool
+liveOf r = onOf r (r .mode) && not (r .buffer .frozen)
+
+-- a word of type n that is retired there; a word that is no transfer has type 0
+unfoldable pub liveOutcome : Registers → ℕ → Outcome
+liveOutcome r n = onOutcome (rasemuOf r (r .mode) (r .mode)) (inhibitedOf r (governingOf (r .mode) (r .mode)) n) n
+
+-- a retired word of type n
+unfoldable pub retiredOutcome : Registers → ℕ → Outcome
+retiredOutcome r n = if liveOf r then liveOutcome r n else Nothing
 
 -- a trap's type: 2 for an interrupt, 1 for an exception
 abbrev pub trapType : Bool → ℕ

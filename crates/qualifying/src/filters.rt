@@ -1,6 +1,7 @@
 // What the control registers say of traps and of transfer types.
 ghost use mathlib.Core.Path.{_≡_};
-ghost use mathlib.Core.Bool.{not, _&&_};
+ghost use Prim.Native.Nat.{_+_, _<_};
+ghost use mathlib.Core.Bool.{true, not, _&&_};
 ghost use Rattle.machine.specs.Controls.{isSet};
 ghost use Rattle.machine.specs.Modes.{controlOf};
 ghost use Rattle.qualifying.specs.Filters.{freezesOf, externalToS, externalToM, externalOf, isType, inhibitBit, inhibitedOf, VSTE, STE, MTE};
@@ -9,6 +10,7 @@ use machine::ControlRegister;
 use machine::Mode;
 use machine::Registers;
 use machine::TrapTo;
+use machine::controls::control_word;
 use machine::controls::is_set;
 use machine::modes::control;
 use machine::modes::is_vu;
@@ -125,34 +127,23 @@ fn is_type(number: u64) -> bool
     }
 }
 
-// The bit that is about a type.
-fn inhibit_bit(number: u64) -> ControlBit
-    ensures { λ b. ⌜ b ≡ inhibitBit number ⌝ }
+// The bit that is about a type lies 32 above its number.
+fn inhibit_place(number: u64) -> u32
+    requires { ⌜ number < 16 ⌝ }
+    ensures { λ n. ⌜ n ≡ 32 + number ⌝ }
 {
-    match number {
-        1 => ControlBit::EXCINH,
-        2 => ControlBit::INTRINH,
-        3 => ControlBit::TRETINH,
-        4 => ControlBit::NTBREN,
-        5 => ControlBit::TKBRINH,
-        8 => ControlBit::INDCALLINH,
-        9 => ControlBit::DIRCALLINH,
-        10 => ControlBit::INDJMPINH,
-        11 => ControlBit::DIRJMPINH,
-        12 => ControlBit::CORSWAPINH,
-        13 => ControlBit::RETINH,
-        14 => ControlBit::INDLJMPINH,
-        _ => ControlBit::DIRLJMPINH,
-    }
+    32 + number as u32
 }
 
 fn has_inhibit_bit(r: Registers, c: ControlRegister, number: u64) -> bool
+    requires { ⌜ isType number ≡ true ⌝ }
     ensures { λ b. ⌜ b ≡ isSet r c (inhibitBit number) ⌝ }
 {
-    is_set(r, c, inhibit_bit(number))
+    bits::bit(control_word(r, c), inhibit_place(number))
 }
 
 fn lacks_inhibit_bit(r: Registers, c: ControlRegister, number: u64) -> bool
+    requires { ⌜ isType number ≡ true ⌝ }
     ensures { λ b. ⌜ b ≡ not (isSet r c (inhibitBit number)) ⌝ }
 {
     !has_inhibit_bit(r, c, number)

@@ -1,15 +1,13 @@
 // When a transfer qualifies.
 ghost use mathlib.Core.Path.{_≡_};
-ghost use mathlib.Core.Bool.{not, _&&_};
+ghost use mathlib.Core.Bool.{_&&_};
 ghost use Rattle.bits.specs.Choice.{if_then_else_};
-ghost use Rattle.classifier.specs.Transfers.{typeOf};
-ghost use Rattle.machine.specs.Modes.{onOf, governingOf};
+ghost use Rattle.machine.specs.Modes.{governingOf};
 ghost use Rattle.qualifying.specs.Filters.{inhibitedOf};
-ghost use Rattle.qualifying.specs.Outcomes.{stackOutcome, rasemuOf, onOutcome, retiredOutcome, trapType, trapBy, trapOutcome, returnBy, returnOutcome};
+ghost use Rattle.qualifying.specs.Outcomes.{stackOutcome, rasemuOf, onOutcome, liveOf, liveOutcome, trapType, trapBy, trapOutcome, returnBy, returnOutcome};
 use crate::filters::external;
 use crate::filters::freezes;
 use crate::filters::inhibited;
-use classifier::Transfer;
 use machine::ControlBit;
 use machine::Mode;
 use machine::Outcome;
@@ -19,36 +17,31 @@ use machine::controls::is_set;
 use machine::modes::governing;
 use machine::modes::is_on;
 
-// What RASEMU makes of a transfer.
-pub fn stack_outcome(t: Transfer) -> Outcome
-    ensures { λ o. ⌜ o ≡ stackOutcome t ⌝ }
+// What RASEMU makes of a type.
+fn stack_outcome(number: u64) -> Outcome
+    ensures { λ o. ⌜ o ≡ stackOutcome number ⌝ }
 {
-    match t {
-        Transfer::None => Outcome::Nothing,
-        Transfer::Branch => Outcome::Nothing,
-        Transfer::IndirectCall => Outcome::Record,
-        Transfer::DirectCall => Outcome::Record,
-        Transfer::IndirectJump => Outcome::Nothing,
-        Transfer::DirectJump => Outcome::Nothing,
-        Transfer::CoroutineSwap => Outcome::Swap,
-        Transfer::FunctionReturn => Outcome::Pop,
-        Transfer::OtherIndirectJump => Outcome::Nothing,
-        Transfer::OtherDirectJump => Outcome::Nothing,
+    match number {
+        8 => Outcome::Record,
+        9 => Outcome::Record,
+        12 => Outcome::Swap,
+        13 => Outcome::Pop,
+        _ => Outcome::Nothing,
     }
 }
 
 // Whether the register that governs a transition has RASEMU.
-pub fn rasemu(r: Registers, source: Mode, target: Mode) -> bool
+fn rasemu(r: Registers, source: Mode, target: Mode) -> bool
     ensures { λ b. ⌜ b ≡ rasemuOf r source target ⌝ }
 {
     is_set(r, governing(source, target), ControlBit::RASEMU)
 }
 
-fn on_outcome(rasemu: bool, inhibited: bool, t: Transfer) -> Outcome
-    ensures { λ o. ⌜ o ≡ onOutcome rasemu inhibited t ⌝ }
+fn on_outcome(rasemu: bool, inhibited: bool, number: u64) -> Outcome
+    ensures { λ o. ⌜ o ≡ onOutcome rasemu inhibited number ⌝ }
 {
     if rasemu {
-        stack_outcome(t)
+        stack_outcome(number)
     } else if inhibited {
         Outcome::Nothing
     } else {
@@ -56,48 +49,24 @@ fn on_outcome(rasemu: bool, inhibited: bool, t: Transfer) -> Outcome
     }
 }
 
-fn widened(x: u8) -> u64
-    ensures { λ y. ⌜ y ≡ x ⌝ }
-{
-    x as u64
-}
-
-// The number of a transfer's type.
-pub fn transfer_type(t: Transfer, taken: bool) -> u64
-    ensures { λ n. ⌜ n ≡ typeOf t taken ⌝ }
-{
-    widened(classifier::type_number(t, taken))
-}
-
-// What comes of a transfer retired in a mode that is on.
-fn recorded_outcome(r: Registers, t: Transfer, taken: bool) -> Outcome
-    ensures { λ o. ⌜ o ≡ onOutcome (rasemuOf r (r .mode) (r .mode)) (inhibitedOf r (governingOf (r .mode) (r .mode)) (typeOf t taken)) t ⌝ }
-{
-    let m = r.mode;
-    on_outcome(
-        rasemu(r, m, m),
-        inhibited(r, governing(m, m), transfer_type(t, taken)),
-        t,
-    )
-}
-
 // Whether the current mode is on and nothing is frozen.
-fn is_live(r: Registers) -> bool
-    ensures { λ b. ⌜ b ≡ (onOf r (r .mode) && not (r .buffer .frozen)) ⌝ }
+pub fn is_live(r: Registers) -> bool
+    ensures { λ b. ⌜ b ≡ liveOf r ⌝ }
 {
     let m = r.mode;
     if is_on(r, m) { !r.buffer.frozen } else { false }
 }
 
-// What comes of a retired word that is the transfer t. Number 5 is the caller's to look for.
-pub fn retired_outcome(r: Registers, t: Transfer, taken: bool) -> Outcome
-    ensures { λ o. ⌜ o ≡ retiredOutcome r t taken ⌝ }
+// What comes of a word of a type, retired where recording is live.
+pub fn live_outcome(r: Registers, number: u64) -> Outcome
+    ensures { λ o. ⌜ o ≡ liveOutcome r number ⌝ }
 {
-    if is_live(r) {
-        recorded_outcome(r, t, taken)
-    } else {
-        Outcome::Nothing
-    }
+    let m = r.mode;
+    on_outcome(
+        rasemu(r, m, m),
+        inhibited(r, governing(m, m), number),
+        number,
+    )
 }
 
 pub fn trap_type(interrupt: bool) -> u64

@@ -1,67 +1,99 @@
--- The entry in focus is one of the entries, and what the two steps do, put together. Assumes nothing.
-use mathlib.Core.Path.{_≡_, refl, _∙_}
+-- The entry in focus is one of the entries, of bad registers too, and what the steps do, put together. Assumes nothing.
+use mathlib.Core.Path.{_≡_, refl, sym, _∙_}
 use mathlib.Core.Bool.{Bool, true, false}
 use Prim.Native.Nat.{ℕ, _<_}
 use lib.ListN.{length-set}
-use Rattle.bits.specs.Choice.{if_then_else_}
-use Rattle.classifier.specs.declared.Transfer.{Transfer}
 use Rattle.machine.proofs.DepthLaws.{wrapped-lt}
 use Rattle.machine.specs.Depths.{physicalOf}
 use Rattle.machine.specs.declared.Registers.{Registers}
 use Rattle.machine.specs.declared.Decision.{Decision}
 use Rattle.machine.specs.declared.Effect.{Effect}
 use Rattle.machine.specs.declared.Effect.the-variants.{Keep, Put, ClearAll}
-use Rattle.access.specs.Accesses as Accesses
-use Rattle.qualifying.specs.Outcomes.{stackOutcome, rasemuOf}
-use Rattle.transfers.specs.Transfers as Transfers
+use Rattle.machine.specs.Answers.{refused, accepted}
+use Rattle.machine.specs.Good.{goodOf}
+use Rattle.machine.specs.declared.Entry.{Entry}
+use Rattle.machine.specs.declared.RetiredWord.{RetiredWord}
+use Rattle.machine.specs.declared.Verdict.the-variants.{BadState}
+use Rattle.access.specs.Accesses.{accessFocus}
+use Rattle.qualifying.specs.Outcomes.{liveOf, liveOutcome, retiredOutcome}
+use Rattle.transfers.specs.Records.{entryFor}
+use Rattle.transfers.specs.Transfers.{outcomeFocus, doneOf, retiredOf}
 use Rattle.machine.specs.declared.Outcome.{Outcome}
 use Rattle.machine.specs.declared.Outcome.the-variants.{Nothing, Record, Pop, Swap, Freeze}
-use Rattle.recorder.specs.Events.{transferIn, atWrptr, retiredFocus, focusOf}
-use Rattle.recorder.specs.Decisions.{decideOf}
+use Rattle.recorder.specs.Events.{typeIn, atWrptr, focusOf}
+use Rattle.recorder.specs.Decisions.{eventOf, decideOf}
 use Rattle.recorder.specs.Entries.{entries, Entries, entryAt, appliedOf, Filled}
-use Rattle.recorder.specs.Steps.{stateOf, entriesIn, focusIn, decidedOf, stepOf, stepped, Whole}
+use Rattle.recorder.specs.Steps.{stateOf, entriesIn, decidedOf, appliedTo, outcomeTo, answeredBy, stepOf, stepped, Whole}
 use Rattle.machine.specs.declared.Event.{Event}
-use Rattle.machine.specs.declared.Event.the-variants.{Retired, Trap, TrapReturn, Access, Sctrclr, Host}
+use Rattle.machine.specs.declared.Event.the-variants.{Retired}
 use Rattle.recorder.specs.declared.State.{State}
 use Rattle.recorder.specs.declared.Stepped.{Stepped}
 use Rattle.recorder.specs.declared.Answered.{Answered}
 
-at-wrptr-lt : (r : Registers) → atWrptr (r .buffer) < entries
+pub at-wrptr-lt : (r : Registers) → atWrptr (r .buffer) < entries
 at-wrptr-lt r = wrapped-lt (r .buffer .wrptr) (r .buffer .code)
 
 physical-lt : (code wrptr i : ℕ) → physicalOf code wrptr i < entries
 unfolding physicalOf
 physical-lt code wrptr i = wrapped-lt _ code
 
-outcome-lt : (r : Registers) (o : Outcome) → Transfers.outcomeFocus r o < entries
-unfolding Transfers.outcomeFocus
+pub outcome-lt : (r : Registers) (o : Outcome) → outcomeFocus r o < entries
+unfolding outcomeFocus
 outcome-lt r Nothing = at-wrptr-lt r
 outcome-lt r Record = at-wrptr-lt r
 outcome-lt r Pop = physical-lt (r .buffer .code) (r .buffer .wrptr) 0
 outcome-lt r Swap = physical-lt (r .buffer .code) (r .buffer .wrptr) 0
 outcome-lt r Freeze = at-wrptr-lt r
 
-retired-lt : (r : Registers) (t : Transfer) (b : Bool) → (if b then Transfers.outcomeFocus r (stackOutcome t) else atWrptr (r .buffer)) < entries
-retired-lt r t true = outcome-lt r (stackOutcome t)
-retired-lt r t false = at-wrptr-lt r
+pub access-lt : (r : Registers) (number : ℕ) → accessFocus r number < entries
+unfolding accessFocus
+access-lt r number = physical-lt (r .buffer .code) (r .buffer .wrptr) _
 
--- the entry in focus is one of the entries, of bad registers too
-pub focus-lt : (r : Registers) (t : Transfer) (e : Event) → focusOf r t e < entries
-unfolding focusOf retiredFocus Accesses.accessFocus
-focus-lt r t (Retired w) = retired-lt r t (rasemuOf r (r .mode) (r .mode))
-focus-lt r t (Trap x) = at-wrptr-lt r
-focus-lt r t (TrapReturn x) = at-wrptr-lt r
-focus-lt r t (Access a) = physical-lt (r .buffer .code) (r .buffer .wrptr) _
-focus-lt r t Sctrclr = at-wrptr-lt r
-focus-lt r t (Host h) = at-wrptr-lt r
+-- a refusal answered
+pub refusal : (r : Registers) (d : Decision) (a : Answered) → d ≡ refused r BadState → a ≡ answeredBy d → a ≡ answeredBy (refused r BadState)
+refusal r d a p h = rw p at h
 
--- what `step_in_place` does: the transfer, the focus and the decision, and then the effect
-pub in-place : (w v : Entries) (r : Registers) (e : Event) (at : ℕ) (t : Transfer) (d : Decision)
-    → t ≡ transferIn r e → at ≡ focusOf r t e → d ≡ decideOf r (entryAt w at) t e → v ≡ appliedOf w (d .effect) at
-    → _≡_ {A = Stepped} (stepOf (stateOf r w) e)
-    (record { number = d .number; value = d .value; state = stateOf (d .registers) v })
-unfolding stepOf decidedOf focusIn
-in-place w v r e at t d k p u h = rw (h, u, p, k)
+-- a decision done
+pub applied : (w v : Entries) (d : Decision) (at : ℕ) (a : Answered)
+    → v ≡ appliedOf w (d .effect) at → a ≡ answeredBy d → stepped a v ≡ appliedTo w d at
+unfolding appliedTo
+applied w v d at a p h = rw (h, p)
+
+-- an event from registers free of number 5: its decision done on the entry that it is about
+pub good-step : (w v : Entries) (r : Registers) (e : Event) (at : ℕ) (d : Decision) (a : Answered)
+    → goodOf r ≡ true → at ≡ focusOf r e → d ≡ eventOf r (entryAt w at) e → stepped a v ≡ appliedTo w d at
+    → stepOf (stateOf r w) e ≡ stepped a v
+unfolding stepOf decidedOf decideOf
+good-step w v r e at d a g p u h = rw g (sym (h ∙ rw (u, p)))
+
+pub focused-step : (w v : Entries) (r : Registers) (e : Event) (at : ℕ) (old : Entry) (d : Decision) (a : Answered)
+    → goodOf r ≡ true → at ≡ focusOf r e → old ≡ entryAt w at → d ≡ eventOf r old e → stepped a v ≡ appliedTo w d at
+    → stepOf (stateOf r w) e ≡ stepped a v
+focused-step w v r e at old d a g p q u h = good-step w v r e at d a g p (rw q at u) h
+
+-- an outcome done
+pub performed : (w v : Entries) (r : Registers) (e : Entry) (o : Outcome) (at : ℕ) (old : Entry) (d : Decision) (a : Answered)
+    → at ≡ outcomeFocus r o → old ≡ entryAt w at → d ≡ doneOf r old e o → stepped a v ≡ appliedTo w d at → stepped a v ≡ outcomeTo w r e o
+unfolding outcomeTo
+performed w v r e o at old d a p q f h = h ∙ rw (f, q, p)
+
+-- a retired word there: where recording is live its outcome is done, and else nothing
+pub live-step : (w v : Entries) (r : Registers) (x : RetiredWord) (n : ℕ) (o : Outcome) (e : Entry) (a : Answered)
+    → goodOf r ≡ true → liveOf r ≡ true → n ≡ typeIn r x → o ≡ liveOutcome r n → e ≡ entryFor (x .pc) (x .target) n
+    → stepped a v ≡ outcomeTo w r e o → stepOf (stateOf r w) (Retired x) ≡ stepped a v
+unfolding stepOf decidedOf decideOf eventOf focusOf retiredOf retiredOutcome outcomeTo
+live-step w v r x n o e a g l t u i h = rw (g, l) (sym (h ∙ rw (i, u, t)))
+
+pub dead-step : (w : Entries) (r : Registers) (x : RetiredWord) (a : Answered) (d : Decision) (b : Bool)
+    → goodOf r ≡ true → b ≡ liveOf r → b ≡ false → d ≡ accepted r 0 → a ≡ answeredBy d → stepOf (stateOf r w) (Retired x) ≡ stepped a w
+unfolding stepOf decidedOf decideOf eventOf focusOf retiredOf retiredOutcome doneOf appliedTo appliedOf
+dead-step w r x a d b g u l f h = rw (g, ← u, l, h, f)
+
+-- from registers that are not, every event is refused
+pub bad-step : (w : Entries) (r : Registers) (e : Event) (a : Answered) (b : Bool)
+    → b ≡ goodOf r → b ≡ false → a ≡ answeredBy (refused r BadState) → stepOf (stateOf r w) e ≡ stepped a w
+unfolding stepOf decidedOf decideOf appliedTo appliedOf
+bad-step w r e a b u g h = rw (← u, g, h)
 
 -- what `step` does: a step in place on the parts of the state
 pub by-value : (s : State) (e : Event) (a : Answered) (v : Entries)
@@ -83,8 +115,8 @@ filled w ClearAll i h = record { ctrsource = refl; ctrtarget = refl; ctrdata = r
 
 -- a step keeps them
 pub whole-kept : (s : State) (e : Event) → Whole s → Whole (stepOf s e .state)
-unfolding stepOf
-whole-kept s e h = filled (entriesIn s) (decidedOf s e .effect) (focusIn s e) h
+unfolding stepOf appliedTo
+whole-kept s e h = filled (entriesIn s) (decidedOf s e .effect) (focusOf (s .registers) e) h
 
 pub whole-after : (s : State) (e : Event) (t : Stepped) → t ≡ stepOf s e → Whole s → Whole (t .state)
 whole-after s e t p h = rw p (whole-kept s e h)

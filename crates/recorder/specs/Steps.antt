@@ -3,7 +3,10 @@ use Prim.Native.Nat.{ℕ}
 use Rattle.machine.specs.Regs.{resetRegisters}
 use Rattle.machine.specs.declared.Registers.{Registers}
 use Rattle.machine.specs.declared.Decision.{Decision}
-use Rattle.recorder.specs.Events.{transferIn, focusOf}
+use Rattle.machine.specs.declared.Outcome.{Outcome}
+use Rattle.machine.specs.declared.Entry.{Entry}
+use Rattle.transfers.specs.Transfers.{outcomeFocus, doneOf}
+use Rattle.recorder.specs.Events.{focusOf}
 use Rattle.recorder.specs.Decisions.{decideOf}
 use Rattle.recorder.specs.Entries.{Entries, entriesOf, cleared, entryAt, appliedOf, Filled}
 use Rattle.machine.specs.declared.Event.{Event}
@@ -18,22 +21,25 @@ stateOf r w = record { registers = r; ctrsource = w .ctrsource; ctrtarget = w .c
 abbrev pub entriesIn : State → Entries
 entriesIn s = entriesOf (s .ctrsource) (s .ctrtarget) (s .ctrdata)
 
--- the physical entry that an event is about
-unfoldable pub focusIn : State → Event → ℕ
-focusIn s e = focusOf (s .registers) (transferIn (s .registers) e) e
-
 -- what an event decides
 unfoldable pub decidedOf : State → Event → Decision
-decidedOf s e = decideOf (s .registers) (entryAt (entriesIn s) (focusIn s e)) (transferIn (s .registers) e) e
+decidedOf s e = decideOf (s .registers) (entryAt (entriesIn s) (focusOf (s .registers) e)) e
 
--- one event: the answer, and every field and entry afterwards
+-- a decision done on entries, its effect on physical entry i: the answer, and every field and entry afterwards
+unfoldable pub appliedTo : Entries → Decision → ℕ → Stepped
+appliedTo w d i = record { number = d .number; value = d .value; state = stateOf (d .registers) (appliedOf w (d .effect) i) }
+
+-- an outcome done on the physical entry that it is about, with the record e that it would put
+unfoldable pub outcomeTo : Entries → Registers → Entry → Outcome → Stepped
+outcomeTo w r e o = let i = outcomeFocus r o in appliedTo w (doneOf r (entryAt w i) e o) i
+
+-- one event
 unfoldable pub stepOf : State → Event → Stepped
-stepOf s e =
-    record {
-      number = decidedOf s e .number;
-      value = decidedOf s e .value;
-      state = stateOf (decidedOf s e .registers) (appliedOf (entriesIn s) (decidedOf s e .effect) (focusIn s e));
-    }
+stepOf s e = appliedTo (entriesIn s) (decidedOf s e) (focusOf (s .registers) e)
+
+-- what a decision answers
+abbrev pub answeredBy : Decision → Answered
+answeredBy d = record { number = d .number; value = d .value; registers = d .registers }
 
 -- an answer with the registers and the entries after it
 abbrev pub stepped : Answered → Entries → Stepped

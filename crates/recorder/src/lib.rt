@@ -1,6 +1,7 @@
-// The recorder: a state with its entries, and one step, by value or in place (docs/RULES.md, S).
-pub mod decide;
-pub mod events;
+// The recorder: a state with its entries, and one step, by value or in place, of any event or of one kind
+// (docs/RULES.md, S).
+mod indexes;
+pub mod kinds;
 pub mod steps;
 
 use machine::Registers;

@@ -1,17 +1,12 @@
 // One event: in place on lent entries, and by value on a whole state.
 ghost use mathlib.Core.Path.{_≡_};
-ghost use Prim.Native.Nat.{_<_};
-ghost use Rattle.recorder.specs.Entries.{entries, entriesOf, appliedOf};
+ghost use Rattle.recorder.specs.Entries.{entriesOf};
 ghost use Rattle.recorder.specs.Steps.{stateOf, stepped, stepOf, resetState, Whole};
 use crate::Answered;
 use crate::ENTRIES;
 use crate::State;
 use crate::Stepped;
-use crate::decide::decide;
-use crate::events::index;
-use crate::events::transfer;
-use machine::Effect;
-use machine::Entry;
+use crate::kinds;
 use machine::Event;
 use machine::Registers;
 
@@ -29,32 +24,6 @@ pub fn reset() -> State
     }
 }
 
-// An effect on the physical entry at an index.
-fn put_in_place(
-    ctrsource: &mut [u64; ENTRIES],
-    ctrtarget: &mut [u64; ENTRIES],
-    ctrdata: &mut [u64; ENTRIES],
-    effect: Effect,
-    at: usize,
-)
-    requires { ⌜ at < entries ⌝ }
-    ensures { λ _. ⌜ entriesOf (now (ctrsource .exit)) (now (ctrtarget .exit)) (now (ctrdata .exit)) ≡ appliedOf (entriesOf (now (ctrsource .entry)) (now (ctrtarget .entry)) (now (ctrdata .entry))) effect at ⌝ }
-{
-    match effect {
-        Effect::Keep => {}
-        Effect::Put(e) => {
-            ctrsource[at] = e.ctrsource;
-            ctrtarget[at] = e.ctrtarget;
-            ctrdata[at] = e.ctrdata;
-        }
-        Effect::ClearAll => {
-            *ctrsource = [0; ENTRIES];
-            *ctrtarget = [0; ENTRIES];
-            *ctrdata = [0; ENTRIES];
-        }
-    }
-}
-
 // One event in place: the entries are lent, and the registers go in and come back.
 pub fn step_in_place(
     ctrsource: &mut [u64; ENTRIES],
@@ -65,21 +34,13 @@ pub fn step_in_place(
 ) -> Answered
     ensures { λ a. ⌜ stepOf (stateOf r (entriesOf (now (ctrsource .entry)) (now (ctrtarget .entry)) (now (ctrdata .entry)))) e ≡ stepped a (entriesOf (now (ctrsource .exit)) (now (ctrtarget .exit)) (now (ctrdata .exit))) ⌝ }
 {
-    let t = transfer(r, e);
-    let at = index(r, t, e);
-    let old = Entry {
-        ctrsource: ctrsource[at],
-        ctrtarget: ctrtarget[at],
-        ctrdata: ctrdata[at],
-    };
-    let d = decide(r, old, t, e);
-    let effect = d.effect;
-    put_in_place(ctrsource, ctrtarget, ctrdata, effect, at);
-    let registers = d.registers;
-    Answered {
-        number: d.number,
-        value: d.value,
-        registers,
+    match e {
+        Event::Retired(w) => kinds::retire(ctrsource, ctrtarget, ctrdata, r, w),
+        Event::Trap(x) => kinds::trap(ctrsource, ctrtarget, ctrdata, r, x),
+        Event::TrapReturn(x) => kinds::trap_return(ctrsource, ctrtarget, ctrdata, r, x),
+        Event::Access(a) => kinds::access(ctrsource, ctrtarget, ctrdata, r, a),
+        Event::Sctrclr => kinds::sctrclr(ctrsource, ctrtarget, ctrdata, r),
+        Event::Host(h) => kinds::host(ctrsource, ctrtarget, ctrdata, r, h),
     }
 }
 

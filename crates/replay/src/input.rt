@@ -1,10 +1,13 @@
-// A file in blocks, and the rows of a block.
-ghost use Prim.Native.Nat.{_+_, _*_, _<_};
+// A file in blocks, and the words of a block.
+ghost use Prim.Native.Nat.{_+_, _≤_, _<_};
 ghost use lib.ListN.{length};
-use trace::Row;
 
-// How many bytes are read at a time.
+// How many bytes are read at a time, how many words they are, and how many words answer their rows.
 pub(crate) const BLOCK: usize = 65536;
+
+pub(crate) const WORDS: usize = 8192;
+
+pub(crate) const ANSWERS: usize = 4096;
 
 // A block of a file: how many bytes, and whether a read failed.
 pub(crate) struct Block {
@@ -30,17 +33,21 @@ fn word_at(input: &[u8], at: usize) -> u64
         | (widened(input[at + 7]) << 56)
 }
 
-// Row i of the input.
-pub(crate) fn row_at(input: &[u8], i: usize) -> Row
-    requires { ⌜ 32 * i + 31 < length (now input) ⌝ }
+pub(crate) fn least(a: usize, b: usize) -> usize
+    ensures first { λ n. ⌜ n ≤ a ⌝ }
+    ensures second { λ n. ⌜ n ≤ b ⌝ }
 {
-    let at = 32 * i;
-    trace::rows::decode(
-        word_at(input, at),
-        word_at(input, at + 8),
-        word_at(input, at + 16),
-        word_at(input, at + 24),
-    )
+    if a < b { a } else { b }
+}
+
+// Puts the words of the input in place, as many as both hold.
+pub(crate) fn put_words(words: &mut [u64], input: &[u8]) {
+    let count = least(words.len(), input.len() / 8);
+    let mut i = 0;
+    while i < count {
+        words[i] = word_at(input, 8 * i);
+        i += 1;
+    }
 }
 
 // Reads until the buffer is full, the file ends or a read fails.

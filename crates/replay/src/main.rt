@@ -1,5 +1,6 @@
 // Replays traces of events through the recorder, each from reset, and prints what it recorded: the
 // answers if asked for, counts, the registers, the history and, if asked for, all entries.
+mod answers;
 mod input;
 mod output;
 mod problems;

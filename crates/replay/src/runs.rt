@@ -1,12 +1,14 @@
 // A trace from its file through the recorder, in blocks.
-ghost use Prim.Native.Nat.{_+_, _*_, _<_};
-ghost use lib.ListN.{length};
 use crate::Options;
+use crate::answers::count_answers;
+use crate::answers::put_answers_if;
+use crate::input::ANSWERS;
 use crate::input::BLOCK;
 use crate::input::Block;
+use crate::input::WORDS;
+use crate::input::least;
+use crate::input::put_words;
 use crate::input::read_block;
-use crate::input::row_at;
-use crate::output::end_line;
 use crate::output::flush;
 use crate::problems;
 use crate::report::COUNTS;
@@ -14,17 +16,14 @@ use crate::report::put_counts;
 use crate::report::put_entries_if;
 use crate::report::put_history;
 use crate::report::put_registers;
-use machine::Event;
 use machine::Registers;
-use machine::answers::NUMBERS;
-use machine::answers::number_index;
-use machine::answers::value_index;
-use recorder::Answered;
 use recorder::ENTRIES;
 use recorder::steps::reset;
-use recorder::steps::step_in_place;
 use std::num::wrapping_add_u64;
+use trace::Ran;
 use trace::Row;
+use trace::rows::decode;
+use trace::runs::replay_in_place;
 
 // The word index of a row that breaks no rule.
 const WHOLE: u64 = 4;
@@ -43,116 +42,86 @@ struct Run {
     is_going: bool,
 }
 
-// Whether the value answered tells what was recorded.
-fn is_transfer(e: Event) -> bool {
-    match e {
-        Event::Retired(_) => true,
-        Event::Trap(_) => true,
-        Event::TrapReturn(_) => true,
-        _ => false,
+// The first word of a row that breaks a rule, or WHOLE.
+fn broken_word(w: u64, a: u64, b: u64, c: u64) -> u64 {
+    match decode(w, a, b, c) {
+        Row::WellFormed(_) => WHOLE,
+        Row::Malformed(word) => word,
     }
 }
 
-fn count(counts: &mut [u64; COUNTS], place: u64)
-    requires { ⌜ place < 13 ⌝ }
-{
-    let k = place as usize;
-    counts[k] = wrapping_add_u64(counts[k], 1);
-}
-
-// An answer among the counts of numbers and, of a transfer that is answered, of values.
-fn count_answer(counts: &mut [u64; COUNTS], transfer: bool, number: u64, value: u64) {
-    count(counts, number_index(number));
-    if transfer && number == 0 {
-        count(counts, NUMBERS + 1 + value_index(value));
-    }
-}
-
-fn put_answer(out: &mut [u8], at: usize, number: u64, value: u64) -> usize {
-    let mut next = text::put_decimal(out, at, number);
-    next = text::put_byte(out, next, b' ');
-    next = text::put_short_hex(out, next, value);
-    end_line(out, next)
-}
-
-fn put_answer_if(out: &mut [u8], at: usize, asked: bool, number: u64, value: u64) -> usize {
-    if asked {
-        put_answer(out, at, number, value)
+// The same of row i, if there is one.
+fn broken_word_at(rows: &[u64], i: usize) -> u64 {
+    if i < rows.len() / 4 {
+        broken_word(
+            rows[4 * i],
+            rows[4 * i + 1],
+            rows[4 * i + 2],
+            rows[4 * i + 3],
+        )
     } else {
-        at
+        WHOLE
     }
 }
 
-// The run after an answer, which ends at a place on the page.
-fn answered(run: Run, a: Answered, at: usize) -> Run {
+// The run after some rows were replayed, with the answers up to a place on the page.
+fn replayed(run: Run, ran: Ran, rows: &[u64], at: usize) -> Run {
     let mut next = run;
-    let registers = a.registers;
+    let registers = ran.registers;
     next.registers = registers;
     next.at = at;
-    next.rows = wrapping_add_u64(next.rows, 1);
+    next.rows = wrapping_add_u64(next.rows, ran.count as u64);
+    next.word = broken_word_at(rows, ran.count);
     next
 }
 
-// One event: its answer is counted and, if asked for, put on the page.
-fn run_event(
-    ctrsource: &mut [u64; ENTRIES],
-    ctrtarget: &mut [u64; ENTRIES],
-    ctrdata: &mut [u64; ENTRIES],
-    counts: &mut [u64; COUNTS],
-    out: &mut [u8],
-    run: Run,
-    e: Event,
-) -> Run {
-    let r = run.registers;
-    let a = step_in_place(ctrsource, ctrtarget, ctrdata, r, e);
-    count_answer(counts, is_transfer(e), a.number, a.value);
-    let at = put_answer_if(out, run.at, run.answers, a.number, a.value);
-    answered(run, a, at)
-}
-
-fn stopped(run: Run, word: u64) -> Run {
-    let mut next = run;
-    next.word = word;
-    next
-}
-
-// Row i of the input: its event is run, or the run stops.
-fn run_row(
-    ctrsource: &mut [u64; ENTRIES],
-    ctrtarget: &mut [u64; ENTRIES],
-    ctrdata: &mut [u64; ENTRIES],
-    counts: &mut [u64; COUNTS],
-    out: &mut [u8],
-    input: &[u8],
-    i: usize,
-    run: Run,
-) -> Run
-    requires { ⌜ 32 * i + 31 < length (now input) ⌝ }
-{
-    match row_at(input, i) {
-        Row::WellFormed(e) => run_event(ctrsource, ctrtarget, ctrdata, counts, out, run, e),
-        Row::Malformed(word) => stopped(run, word),
-    }
-}
-
-// All whole rows of the input, up to one that is malformed.
+// All whole rows, up to one that is malformed.
 fn run_rows(
     ctrsource: &mut [u64; ENTRIES],
     ctrtarget: &mut [u64; ENTRIES],
     ctrdata: &mut [u64; ENTRIES],
     counts: &mut [u64; COUNTS],
     out: &mut [u8],
+    rows: &[u64],
+    answers: &mut [u64],
+    run: Run,
+) -> Run {
+    let r = run.registers;
+    let ran = replay_in_place(ctrsource, ctrtarget, ctrdata, r, rows, answers);
+    count_answers(counts, rows, answers, ran.count);
+    let at = put_answers_if(out, run.at, answers, ran.count, run.answers);
+    replayed(run, ran, rows, at)
+}
+
+// The first n words of some, or all.
+fn first_words(words: &[u64], n: usize) -> &[u64] {
+    let end = least(n, words.len());
+    &words[..end]
+}
+
+// The rows of the input by way of its words.
+fn run_input(
+    ctrsource: &mut [u64; ENTRIES],
+    ctrtarget: &mut [u64; ENTRIES],
+    ctrdata: &mut [u64; ENTRIES],
+    counts: &mut [u64; COUNTS],
+    out: &mut [u8],
+    words: &mut [u64; WORDS],
+    answers: &mut [u64; ANSWERS],
     input: &[u8],
     run: Run,
 ) -> Run {
-    let count = input.len() / 32;
-    let mut next = run;
-    let mut i = 0;
-    while i < count && next.word == WHOLE {
-        next = run_row(ctrsource, ctrtarget, ctrdata, counts, out, input, i, next);
-        i += 1;
-    }
-    next
+    put_words(words, input);
+    run_rows(
+        ctrsource,
+        ctrtarget,
+        ctrdata,
+        counts,
+        out,
+        first_words(words, 4 * (input.len() / 32)),
+        answers,
+        run,
+    )
 }
 
 // The run after the rows of a block.
@@ -176,17 +145,21 @@ fn run_file(
     run: Run,
 ) -> Run {
     let mut input = io::large_buffer();
+    let mut words = [0; WORDS];
+    let mut answers = [0; ANSWERS];
     let mut next = run;
     let mut blocks = u64::MAX;
     while blocks > 0 && next.is_going {
         blocks -= 1;
         let block = read_block(fd, &mut input);
-        next = run_rows(
+        next = run_input(
             ctrsource,
             ctrtarget,
             ctrdata,
             counts,
             out,
+            &mut words,
+            &mut answers,
             text::before(&input, block.count),
             next,
         );

@@ -1,1 +1,3 @@
-pub mod Encoding
+-- Laws that proofs cite.
+pub mod RowLaws
+pub mod RunLaws

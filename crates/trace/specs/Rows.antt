@@ -5,6 +5,11 @@ use mathlib.Core.Bool.{Bool, _&&_}
 use lib.Dec.{eqb, ltb}
 use Rattle.bits.specs.Choice.{if_then_else_}
 use Rattle.bits.specs.Words.{bitAt, fieldAt}
+use Rattle.machine.specs.declared.CsrAccess.{CsrAccess}
+use Rattle.machine.specs.declared.Enables.{Enables}
+use Rattle.machine.specs.declared.RetiredWord.{RetiredWord}
+use Rattle.machine.specs.declared.ReturnTo.{ReturnTo}
+use Rattle.machine.specs.declared.TrapTo.{TrapTo}
 use Rattle.machine.specs.declared.Event.{Event}
 use Rattle.machine.specs.declared.Event.the-variants.{Retired, Trap, TrapReturn, Access, Sctrclr, Host}
 use Rattle.trace.specs.Codes.{modeOf, operationOf}
@@ -16,66 +21,74 @@ unfoldable pub hasMode : ℕ → ℕ → Bool
 hasMode w limit = ltb w limit && ltb (fieldAt w 8 3) 5
 
 -- kind 0, a retired word: taken in bit 8; instruction below 2^32, pc, target
-abbrev pub retiredEvent : ℕ → ℕ → ℕ → Bool → Event
-retiredEvent word pc target taken = Retired (record { word = word; pc = pc; target = target; taken = taken })
+unfoldable pub isRetiredRow : ℕ → ℕ → Bool
+isRetiredRow w word = ltb w (2 ^ 9) && ltb word (2 ^ 32)
+
+abbrev pub retiredIn : ℕ → ℕ → ℕ → ℕ → RetiredWord
+retiredIn w word pc target = record { word = word; pc = pc; target = target; taken = eqb (bitAt w 8) 1 }
 
 unfoldable pub retiredRow : ℕ → ℕ → ℕ → ℕ → Row
 retiredRow w word pc target =
-    if ltb w (2 ^ 9)
-    then (if ltb word (2 ^ 32) then WellFormed (retiredEvent word pc target (eqb (bitAt w 8) 1)) else Malformed 1)
-    else Malformed 0
+    if isRetiredRow w word then WellFormed (Retired (retiredIn w word pc target)) else Malformed (if ltb w (2 ^ 9) then 1 else 0)
 
 -- kind 1, a trap: target mode in bits 10..8, interrupt in bit 11; cause, epc, handler
-abbrev pub trapEvent : ℕ → ℕ → ℕ → ℕ → Event
-trapEvent w cause epc handler =
-    Trap (record { mode = modeOf (fieldAt w 8 3); interrupt = eqb (bitAt w 11) 1; cause = cause; epc = epc; handler = handler })
+unfoldable pub isTrapRow : ℕ → Bool
+isTrapRow w = hasMode w (2 ^ 12)
+
+abbrev pub trapIn : ℕ → ℕ → ℕ → ℕ → TrapTo
+trapIn w cause epc handler =
+    record { mode = modeOf (fieldAt w 8 3); interrupt = eqb (bitAt w 11) 1; cause = cause; epc = epc; handler = handler }
 
 unfoldable pub trapRow : ℕ → ℕ → ℕ → ℕ → Row
-trapRow w cause epc handler =
-    if hasMode w (2 ^ 12)
-    then WellFormed (trapEvent w cause epc handler)
-    else Malformed 0
+trapRow w cause epc handler = if isTrapRow w then WellFormed (Trap (trapIn w cause epc handler)) else Malformed 0
 
 -- kind 2, a trap return: target mode in bits 10..8; 0, pc, target
-abbrev pub returnEvent : ℕ → ℕ → ℕ → Event
-returnEvent w pc target = TrapReturn (record { mode = modeOf (fieldAt w 8 3); pc = pc; target = target })
+unfoldable pub isReturnRow : ℕ → ℕ → Bool
+isReturnRow w zero = hasMode w (2 ^ 11) && eqb zero 0
+
+abbrev pub returnIn : ℕ → ℕ → ℕ → ReturnTo
+returnIn w pc target = record { mode = modeOf (fieldAt w 8 3); pc = pc; target = target }
 
 unfoldable pub returnRow : ℕ → ℕ → ℕ → ℕ → Row
 returnRow w zero pc target =
-    if hasMode w (2 ^ 11)
-    then (if eqb zero 0 then WellFormed (returnEvent w pc target) else Malformed 1)
-    else Malformed 0
+    if isReturnRow w zero then WellFormed (TrapReturn (returnIn w pc target)) else Malformed (if hasMode w (2 ^ 11) then 1 else 0)
 
 -- kind 3, a register access: operation in bits 9..8; CSR number below 4096, operand, 0
-abbrev pub accessEvent : ℕ → ℕ → ℕ → Event
-accessEvent w number operand =
-    Access (record { operation = operationOf (fieldAt w 8 2); number = number; operand = operand })
+unfoldable pub isAccessRow : ℕ → ℕ → ℕ → Bool
+isAccessRow w number zero = ltb w (2 ^ 10) && (ltb number 4096 && eqb zero 0)
+
+abbrev pub accessIn : ℕ → ℕ → ℕ → CsrAccess
+accessIn w number operand = record { operation = operationOf (fieldAt w 8 2); number = number; operand = operand }
 
 unfoldable pub accessRow : ℕ → ℕ → ℕ → ℕ → Row
 accessRow w number operand zero =
-    if ltb w (2 ^ 10)
-    then (if ltb number 4096
-    then (if eqb zero 0 then WellFormed (accessEvent w number operand) else Malformed 3)
-    else Malformed 1)
-    else Malformed 0
+    if isAccessRow w number zero then WellFormed (Access (accessIn w number operand))
+    else Malformed (if ltb w (2 ^ 10) then (if ltb number 4096 then 3 else 1) else 0)
 
--- an event whose words 1 to 3 are zeros
-unfoldable pub zerosRow : ℕ → ℕ → ℕ → Event → Row
-zerosRow a b c e =
-    if eqb a 0
-    then (if eqb b 0 then (if eqb c 0 then WellFormed e else Malformed 3) else Malformed 2)
-    else Malformed 1
+-- words 1 to 3 that are all zero, and the first that is not
+unfoldable pub areZeros : ℕ → ℕ → ℕ → Bool
+areZeros a b c = eqb a 0 && (eqb b 0 && eqb c 0)
+
+unfoldable pub firstSet : ℕ → ℕ → ℕ
+firstSet a b = if eqb a 0 then (if eqb b 0 then 3 else 2) else 1
+
+-- an event that has no words but word 0, below a limit
+unfoldable pub isPlainRow : ℕ → ℕ → ℕ → ℕ → ℕ → Bool
+isPlainRow limit w a b c = ltb w limit && areZeros a b c
+
+unfoldable pub plainRow : ℕ → ℕ → ℕ → ℕ → ℕ → Event → Row
+plainRow limit w a b c e = if isPlainRow limit w a b c then WellFormed e else Malformed (if ltb w limit then firstSet a b else 0)
 
 -- kind 4, SCTRCLR
-unfoldable pub sctrclrRow : ℕ → ℕ → ℕ → ℕ → Row
-sctrclrRow w a b c = if ltb w (2 ^ 8) then zerosRow a b c Sctrclr else Malformed 0
+abbrev pub sctrclrRow : ℕ → ℕ → ℕ → ℕ → Row
+sctrclrRow w a b c = plainRow (2 ^ 8) w a b c Sctrclr
 
 -- kind 5, the host's event: mstateen0.CTR in bit 8, hstateen0.CTR in bit 9
-abbrev pub hostEvent : ℕ → Event
-hostEvent w = Host (record { mstateen0 = eqb (bitAt w 8) 1; hstateen0 = eqb (bitAt w 9) 1 })
+abbrev pub enablesIn : ℕ → Enables
+enablesIn w = record { mstateen0 = eqb (bitAt w 8) 1; hstateen0 = eqb (bitAt w 9) 1 }
 
-unfoldable pub hostRow : ℕ → ℕ → ℕ → ℕ → Row
-hostRow w a b c = if ltb w (2 ^ 10) then zerosRow a b c (hostEvent w) else Malformed 0
+abbrev pub hostRow : ℕ → ℕ → ℕ → ℕ → Row
+hostRow w a b c = plainRow (2 ^ 10) w a b c (Host (enablesIn w))
 
 -- a row by its kind; there are no others
 unfoldable pub rowBy : ℕ → ℕ → ℕ → ℕ → ℕ → Row

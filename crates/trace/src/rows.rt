@@ -1,11 +1,10 @@
 // A row: word 0 has the kind in bits 7..0 and flags above, words 1 to 3 the event's numbers.
 ghost use mathlib.Core.Path.{_≡_};
-ghost use Prim.Native.Nat.{_^_};
+ghost use mathlib.Core.Bool.{true};
 ghost use lib.Dec.{eqb, ltb};
-ghost use Rattle.bits.specs.Choice.{if_then_else_};
-ghost use Rattle.bits.specs.Words.{bitAt, fieldAt};
+ghost use Rattle.bits.specs.Words.{fieldAt};
 ghost use Rattle.trace.specs.Codes.{modeOf, operationOf};
-ghost use Rattle.trace.specs.Rows.{hasMode, retiredEvent, trapEvent, returnEvent, accessEvent, hostEvent, retiredRow, trapRow, returnRow, accessRow, zerosRow, sctrclrRow, hostRow, rowBy, rowOf};
+ghost use Rattle.trace.specs.Rows.{hasMode, isRetiredRow, retiredIn, retiredRow, isTrapRow, trapIn, trapRow, isReturnRow, returnIn, returnRow, isAccessRow, accessIn, accessRow, areZeros, firstSet, isPlainRow, plainRow, sctrclrRow, enablesIn, hostRow, rowBy, rowOf};
 use crate::Row;
 use crate::codes::mode_of;
 use crate::codes::operation_of;
@@ -18,10 +17,29 @@ use machine::RetiredWord;
 use machine::ReturnTo;
 use machine::TrapTo;
 
+// Word 0 of each kind is below a limit: no bit is set that the kind does not name.
+const RETIRED_LIMIT: u64 = 0x200;
+
+const TRAP_LIMIT: u64 = 0x1000;
+
+const RETURN_LIMIT: u64 = 0x800;
+
+const ACCESS_LIMIT: u64 = 0x400;
+
+pub(crate) const SCTRCLR_LIMIT: u64 = 0x100;
+
+pub(crate) const HOST_LIMIT: u64 = 0x400;
+
 fn below(x: u64, limit: u64) -> bool
     ensures { λ b. ⌜ b ≡ ltb x limit ⌝ }
 {
     x < limit
+}
+
+fn is_zero(x: u64) -> bool
+    ensures { λ b. ⌜ b ≡ eqb x 0 ⌝ }
+{
+    x == 0
 }
 
 fn mode_field(w: u64) -> u64
@@ -60,110 +78,137 @@ fn operation_in(w: u64) -> Operation
 }
 
 // A retired word; taken in bit 8 of word 0.
-fn retired_word(taken: bool, word: u64, pc: u64, target: u64) -> Row
-    ensures { λ r. ⌜ r ≡ (if ltb word (2 ^ 32) then Row.WellFormed (retiredEvent word pc target taken) else Row.Malformed 1) ⌝ }
+pub(crate) fn is_retired_row(w: u64, word: u64) -> bool
+    ensures { λ b. ⌜ b ≡ isRetiredRow w word ⌝ }
 {
-    if word < 0x1_0000_0000 {
-        let e = RetiredWord {
-            word: word as u32,
-            pc,
-            target,
-            taken,
-        };
-        Row::WellFormed(Event::Retired(e))
+    if below(w, RETIRED_LIMIT) {
+        below(word, 0x1_0000_0000)
     } else {
-        Row::Malformed(1)
+        false
     }
 }
 
-fn retired_taken(w: u64, word: u64, pc: u64, target: u64) -> Row
-    ensures { λ r. ⌜ r ≡ (if ltb word (2 ^ 32) then Row.WellFormed (retiredEvent word pc target (eqb (bitAt w 8) 1)) else Row.Malformed 1) ⌝ }
+pub(crate) fn retired_in(w: u64, word: u64, pc: u64, target: u64) -> RetiredWord
+    requires { ⌜ isRetiredRow w word ≡ true ⌝ }
+    ensures { λ e. ⌜ e ≡ retiredIn w word pc target ⌝ }
 {
-    retired_word(bits::bit(w, 8), word, pc, target)
+    RetiredWord {
+        word: word as u32,
+        pc,
+        target,
+        taken: bits::bit(w, 8),
+    }
 }
 
 fn retired_row(w: u64, word: u64, pc: u64, target: u64) -> Row
     ensures { λ r. ⌜ r ≡ retiredRow w word pc target ⌝ }
 {
-    if below(w, 0x200) {
-        retired_taken(w, word, pc, target)
+    if is_retired_row(w, word) {
+        Row::WellFormed(Event::Retired(retired_in(w, word, pc, target)))
+    } else if below(w, RETIRED_LIMIT) {
+        Row::Malformed(1)
     } else {
         Row::Malformed(0)
     }
 }
 
 // A trap; target mode in bits 10..8 and interrupt in bit 11.
-fn trap_event(w: u64, cause: u64, epc: u64, handler: u64) -> Row
-    ensures { λ r. ⌜ r ≡ Row.WellFormed (trapEvent w cause epc handler) ⌝ }
+pub(crate) fn is_trap_row(w: u64) -> bool
+    ensures { λ b. ⌜ b ≡ isTrapRow w ⌝ }
 {
-    let e = TrapTo {
+    has_mode(w, TRAP_LIMIT)
+}
+
+pub(crate) fn trap_in(w: u64, cause: u64, epc: u64, handler: u64) -> TrapTo
+    ensures { λ e. ⌜ e ≡ trapIn w cause epc handler ⌝ }
+{
+    TrapTo {
         mode: mode_in(w),
         interrupt: bits::bit(w, 11),
         cause,
         epc,
         handler,
-    };
-    Row::WellFormed(Event::Trap(e))
+    }
 }
 
 fn trap_row(w: u64, cause: u64, epc: u64, handler: u64) -> Row
     ensures { λ r. ⌜ r ≡ trapRow w cause epc handler ⌝ }
 {
-    if has_mode(w, 0x1000) {
-        trap_event(w, cause, epc, handler)
+    if is_trap_row(w) {
+        Row::WellFormed(Event::Trap(trap_in(w, cause, epc, handler)))
     } else {
         Row::Malformed(0)
     }
 }
 
 // A trap return; target mode in bits 10..8.
-fn return_event(w: u64, pc: u64, target: u64) -> Row
-    ensures { λ r. ⌜ r ≡ Row.WellFormed (returnEvent w pc target) ⌝ }
+pub(crate) fn is_return_row(w: u64, zero: u64) -> bool
+    ensures { λ b. ⌜ b ≡ isReturnRow w zero ⌝ }
 {
-    let e = ReturnTo {
+    if has_mode(w, RETURN_LIMIT) {
+        is_zero(zero)
+    } else {
+        false
+    }
+}
+
+pub(crate) fn return_in(w: u64, pc: u64, target: u64) -> ReturnTo
+    ensures { λ e. ⌜ e ≡ returnIn w pc target ⌝ }
+{
+    ReturnTo {
         mode: mode_in(w),
         pc,
         target,
-    };
-    Row::WellFormed(Event::TrapReturn(e))
+    }
 }
 
 fn return_row(w: u64, zero: u64, pc: u64, target: u64) -> Row
     ensures { λ r. ⌜ r ≡ returnRow w zero pc target ⌝ }
 {
-    if has_mode(w, 0x800) {
-        if zero == 0 {
-            return_event(w, pc, target)
-        } else {
-            Row::Malformed(1)
-        }
+    if is_return_row(w, zero) {
+        Row::WellFormed(Event::TrapReturn(return_in(w, pc, target)))
+    } else if has_mode(w, RETURN_LIMIT) {
+        Row::Malformed(1)
     } else {
         Row::Malformed(0)
     }
 }
 
 // A register access; operation in bits 9..8.
-fn access_event(w: u64, number: u64, operand: u64) -> Row
-    ensures { λ r. ⌜ r ≡ Row.WellFormed (accessEvent w number operand) ⌝ }
+fn is_csr(number: u64) -> bool
+    ensures { λ b. ⌜ b ≡ ltb number 4096 ⌝ }
 {
-    let e = CsrAccess {
+    below(number, 0x1000)
+}
+
+pub(crate) fn is_access_row(w: u64, number: u64, zero: u64) -> bool
+    ensures { λ b. ⌜ b ≡ isAccessRow w number zero ⌝ }
+{
+    if below(w, ACCESS_LIMIT) {
+        if is_csr(number) { is_zero(zero) } else { false }
+    } else {
+        false
+    }
+}
+
+pub(crate) fn access_in(w: u64, number: u64, operand: u64) -> CsrAccess
+    ensures { λ e. ⌜ e ≡ accessIn w number operand ⌝ }
+{
+    CsrAccess {
         operation: operation_in(w),
         number,
         operand,
-    };
-    Row::WellFormed(Event::Access(e))
+    }
 }
 
 fn access_row(w: u64, number: u64, operand: u64, zero: u64) -> Row
     ensures { λ r. ⌜ r ≡ accessRow w number operand zero ⌝ }
 {
-    if below(w, 0x400) {
-        if below(number, 0x1000) {
-            if zero == 0 {
-                access_event(w, number, operand)
-            } else {
-                Row::Malformed(3)
-            }
+    if is_access_row(w, number, zero) {
+        Row::WellFormed(Event::Access(access_in(w, number, operand)))
+    } else if below(w, ACCESS_LIMIT) {
+        if is_csr(number) {
+            Row::Malformed(3)
         } else {
             Row::Malformed(1)
         }
@@ -172,60 +217,71 @@ fn access_row(w: u64, number: u64, operand: u64, zero: u64) -> Row
     }
 }
 
-// An event whose words 1 to 3 are zeros.
-fn zeros_row(a: u64, b: u64, c: u64, e: Event) -> Row
-    ensures { λ r. ⌜ r ≡ zerosRow a b c e ⌝ }
+// Whether words 1 to 3 are all zero.
+fn are_zeros(a: u64, b: u64, c: u64) -> bool
+    ensures { λ r. ⌜ r ≡ areZeros a b c ⌝ }
 {
-    if a == 0 {
-        if b == 0 {
-            if c == 0 {
-                Row::WellFormed(e)
-            } else {
-                Row::Malformed(3)
-            }
-        } else {
-            Row::Malformed(2)
-        }
+    if is_zero(a) {
+        if is_zero(b) { is_zero(c) } else { false }
     } else {
-        Row::Malformed(1)
+        false
     }
 }
 
-fn sctrclr_event(a: u64, b: u64, c: u64) -> Row
-    ensures { λ r. ⌜ r ≡ zerosRow a b c Event.Sctrclr ⌝ }
+// The first of words 1 to 3 that is not zero.
+fn first_set(a: u64, b: u64) -> u64
+    ensures { λ n. ⌜ n ≡ firstSet a b ⌝ }
 {
-    zeros_row(a, b, c, Event::Sctrclr)
+    if is_zero(a) {
+        if is_zero(b) { 3 } else { 2 }
+    } else {
+        1
+    }
+}
+
+// An event that has no words but word 0.
+pub(crate) fn is_plain_row(limit: u64, w: u64, a: u64, b: u64, c: u64) -> bool
+    ensures { λ r. ⌜ r ≡ isPlainRow limit w a b c ⌝ }
+{
+    if below(w, limit) {
+        are_zeros(a, b, c)
+    } else {
+        false
+    }
+}
+
+fn plain_row(limit: u64, w: u64, a: u64, b: u64, c: u64, e: Event) -> Row
+    ensures { λ r. ⌜ r ≡ plainRow limit w a b c e ⌝ }
+{
+    if is_plain_row(limit, w, a, b, c) {
+        Row::WellFormed(e)
+    } else if below(w, limit) {
+        Row::Malformed(first_set(a, b))
+    } else {
+        Row::Malformed(0)
+    }
 }
 
 fn sctrclr_row(w: u64, a: u64, b: u64, c: u64) -> Row
     ensures { λ r. ⌜ r ≡ sctrclrRow w a b c ⌝ }
 {
-    if below(w, 0x100) {
-        sctrclr_event(a, b, c)
-    } else {
-        Row::Malformed(0)
-    }
+    plain_row(SCTRCLR_LIMIT, w, a, b, c, Event::Sctrclr)
 }
 
 // The host's event; mstateen0.CTR in bit 8 and hstateen0.CTR in bit 9.
-fn host_event(w: u64, a: u64, b: u64, c: u64) -> Row
-    ensures { λ r. ⌜ r ≡ zerosRow a b c (hostEvent w) ⌝ }
+pub(crate) fn enables_in(w: u64) -> Enables
+    ensures { λ e. ⌜ e ≡ enablesIn w ⌝ }
 {
-    let e = Enables {
+    Enables {
         mstateen0: bits::bit(w, 8),
         hstateen0: bits::bit(w, 9),
-    };
-    zeros_row(a, b, c, Event::Host(e))
+    }
 }
 
 fn host_row(w: u64, a: u64, b: u64, c: u64) -> Row
     ensures { λ r. ⌜ r ≡ hostRow w a b c ⌝ }
 {
-    if below(w, 0x400) {
-        host_event(w, a, b, c)
-    } else {
-        Row::Malformed(0)
-    }
+    plain_row(HOST_LIMIT, w, a, b, c, Event::Host(enables_in(w)))
 }
 
 fn row_by(kind: u64, w: u64, a: u64, b: u64, c: u64) -> Row

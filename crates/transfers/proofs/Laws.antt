@@ -4,7 +4,6 @@ use Prim.Native.Nat.{_+_, _%_}
 use native.Mathlib.Nat.{mod-lt}
 use borrow.Author.Tests.{lt-ltb}
 use Rattle.bits.specs.Choice.{if_then_else_}
-use Rattle.classifier.specs.Transfers.{typeOf}
 use Rattle.machine.specs.Answers.{refused}
 use Rattle.machine.specs.Depths.{depthOf}
 use Rattle.machine.proofs.DepthLaws.{depth-pos}
@@ -18,17 +17,17 @@ use Rattle.machine.specs.declared.Verdict.the-variants.{ChangeNotPossible}
 use Rattle.qualifying.specs.Changes.{possibleTrap, possibleReturn}
 use Rattle.transfers.specs.Records.{entryFor, sidePc, advanced, retreated}
 use Rattle.qualifying.specs.Filters.{freezesOf}
-use Rattle.qualifying.specs.Outcomes.{retiredOutcome, trapOutcome, trapType, returnOutcome, returnType}
+use Rattle.qualifying.specs.Outcomes.{liveOf, retiredOutcome, trapOutcome, trapType, returnOutcome, returnType}
 use Rattle.transfers.specs.Transfers.{doneOf, retiredOf, inMode, crossing, takenTrap, trapOf, takenReturn, returnOf}
 use Rattle.transfers.specs.Laws.{Hidden, StaysGood}
 use Rattle.machine.specs.declared.Outcome.{Outcome}
 use Rattle.machine.specs.declared.Outcome.the-variants.{Nothing, Record, Pop, Swap, Freeze}
 
 pub hidden : (r : Registers) (old : Entry) → Hidden r old
-unfolding retiredOf retiredOutcome doneOf trapOf takenTrap trapOutcome freezesOf returnOf takenReturn crossing sidePc
+unfolding retiredOf retiredOutcome liveOf doneOf trapOf takenTrap trapOutcome freezesOf returnOf takenReturn crossing sidePc
 hidden r old =
     record {
-      retired = (λ t w h. rw h);
+      retired = (λ n w h. rw h);
       trap-source = (λ t epc h. rw h);
       trap-target = (λ t handler h. rw h);
       return-source = (λ t pc h. rw h);
@@ -63,8 +62,7 @@ pub stays-good : (r : Registers) (old : Entry) → StaysGood r old
 unfolding retiredOf trapOf takenTrap returnOf takenReturn
 stays-good r old =
     record {
-      retired = (λ t w h.
-          whole _ (good-done r old (entryFor (w .pc) (w .target) (typeOf t (w .taken))) (retiredOutcome r t (w .taken)) (parts r h)));
+      retired = (λ n w h. whole _ (good-done r old (entryFor (w .pc) (w .target) n) (retiredOutcome r n) (parts r h)));
       trap = (λ t h.
           let q = parts r h in
           let e = crossing r (t .mode) (t .epc) (t .handler) (trapType (t .interrupt)) in

@@ -2,7 +2,6 @@
 use Prim.Native.Nat.{ℕ}
 use mathlib.Core.Path.{_≡_}
 use mathlib.Core.Bool.{true, false}
-use Rattle.classifier.specs.declared.Transfer.{Transfer}
 use Rattle.machine.specs.Answers.{accepted}
 use Rattle.machine.specs.Modes.{onOf}
 use Rattle.machine.specs.Good.{goodOf}
@@ -22,7 +21,7 @@ withReturnPcs t pc target = record { mode = t .mode; pc = pc; target = target }
 
 -- no address of a side that is off reaches a decision, and a word retired in a mode that is off decides nothing
 pub record Hidden (r : Registers) (old : Entry) : Type 0 where
-  pub retired : (t : Transfer) (w : RetiredWord) → onOf r (r .mode) ≡ false → retiredOf r old t w ≡ accepted r 0
+  pub retired : (n : ℕ) (w : RetiredWord) → onOf r (r .mode) ≡ false → retiredOf r old n w ≡ accepted r 0
   pub trap-source : (t : TrapTo) (epc : ℕ) → onOf r (r .mode) ≡ false → trapOf r old t ≡ trapOf r old (withPcs t epc (t .handler))
   pub trap-target : (t : TrapTo) (handler : ℕ) → onOf r (t .mode) ≡ false → trapOf r old t ≡ trapOf r old (withPcs t (t .epc) handler)
   pub return-source : (t : ReturnTo) (pc : ℕ)
@@ -32,6 +31,6 @@ pub record Hidden (r : Registers) (old : Entry) : Type 0 where
 
 -- registers free of number 5 stay so
 pub record StaysGood (r : Registers) (old : Entry) : Type 0 where
-  pub retired : (t : Transfer) (w : RetiredWord) → goodOf r ≡ true → goodOf (retiredOf r old t w .registers) ≡ true
+  pub retired : (n : ℕ) (w : RetiredWord) → goodOf r ≡ true → goodOf (retiredOf r old n w .registers) ≡ true
   pub trap : (t : TrapTo) → goodOf r ≡ true → goodOf (trapOf r old t .registers) ≡ true
   pub trap-return : (t : ReturnTo) → goodOf r ≡ true → goodOf (returnOf r old t .registers) ≡ true

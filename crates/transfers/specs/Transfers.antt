@@ -1,8 +1,6 @@
 -- Retired words, traps and trap returns, from registers free of number 5, given the entry in focus.
 use Prim.Native.Nat.{ℕ, _%_}
 use Rattle.bits.specs.Choice.{if_then_else_}
-use Rattle.classifier.specs.Transfers.{typeOf}
-use Rattle.classifier.specs.declared.Transfer.{Transfer}
 use Rattle.machine.specs.Answers.{valueOf, refused, accepted, acceptedPut}
 use Rattle.machine.specs.Regs.{withMode, withFrozen}
 use Rattle.machine.specs.Depths.{depthOf, physicalOf}
@@ -36,10 +34,9 @@ doneOf r old e Pop = acceptedPut (retreated r) (valueOf Pop) (popped old)
 doneOf r old e Swap = acceptedPut r (valueOf Swap) e
 doneOf r old e Freeze = accepted (withFrozen r) (valueOf Freeze)
 
--- a retired word that is the transfer t
-unfoldable pub retiredOf : Registers → Entry → Transfer → RetiredWord → Decision
-retiredOf r old t w =
-    doneOf r old (entryFor (w .pc) (w .target) (typeOf t (w .taken))) (retiredOutcome r t (w .taken))
+-- a retired word of type n
+unfoldable pub retiredOf : Registers → Entry → ℕ → RetiredWord → Decision
+retiredOf r old n w = doneOf r old (entryFor (w .pc) (w .target) n) (retiredOutcome r n)
 
 -- a decision with the mode changed: every possible trap or return changes it, recorded or not
 abbrev pub inMode : Decision → Mode → Decision

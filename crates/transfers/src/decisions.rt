@@ -1,22 +1,19 @@
-// What a retired word, a trap and a trap return decide.
+// What an outcome does, and what a trap and a trap return decide.
 ghost use mathlib.Core.Path.{_≡_};
-ghost use Rattle.classifier.specs.Transfers.{typeOf};
 ghost use Rattle.machine.specs.Answers.{valueOf, accepted, acceptedPut};
 ghost use Rattle.machine.specs.Regs.{withFrozen};
-ghost use Rattle.transfers.specs.Records.{entryFor, popped, advanced, retreated};
-ghost use Rattle.transfers.specs.Transfers.{outcomeFocus, doneOf, retiredOf, inMode, crossing, takenTrap, trapOf, takenReturn, returnOf};
+ghost use Rattle.transfers.specs.Records.{popped, advanced, retreated};
+ghost use Rattle.transfers.specs.Transfers.{outcomeFocus, doneOf, inMode, crossing, takenTrap, trapOf, takenReturn, returnOf};
 use crate::records::advance;
 use crate::records::entry_for;
 use crate::records::pop;
 use crate::records::retreat;
 use crate::records::side_pc;
-use classifier::Transfer;
 use machine::Decision;
 use machine::Entry;
 use machine::Mode;
 use machine::Outcome;
 use machine::Registers;
-use machine::RetiredWord;
 use machine::ReturnTo;
 use machine::TrapTo;
 use machine::Verdict;
@@ -31,9 +28,7 @@ use machine::regs::with_mode;
 use qualifying::changes::possible_return;
 use qualifying::changes::possible_trap;
 use qualifying::outcomes::RETURN_TYPE;
-use qualifying::outcomes::retired_outcome;
 use qualifying::outcomes::return_outcome;
-use qualifying::outcomes::transfer_type;
 use qualifying::outcomes::trap_outcome;
 use qualifying::outcomes::trap_type;
 
@@ -80,8 +75,8 @@ fn nothing(r: Registers) -> Decision
     accept(r, value(Outcome::Nothing))
 }
 
-// An outcome done, with the record e that it would put.
-fn done(r: Registers, old: Entry, e: Entry, o: Outcome) -> Decision
+// An outcome done, with the entry in focus and the record e that it would put.
+pub fn done(r: Registers, old: Entry, e: Entry, o: Outcome) -> Decision
     ensures { λ d. ⌜ d ≡ doneOf r old e o ⌝ }
 {
     match o {
@@ -91,20 +86,6 @@ fn done(r: Registers, old: Entry, e: Entry, o: Outcome) -> Decision
         Outcome::Swap => swap(r, e),
         Outcome::Freeze => freeze(r),
     }
-}
-
-// The record of a retired word.
-fn retired_entry(t: Transfer, w: RetiredWord) -> Entry
-    ensures { λ e. ⌜ e ≡ entryFor (w .pc) (w .target) (typeOf t (w .taken)) ⌝ }
-{
-    entry_for(w.pc, w.target, transfer_type(t, w.taken))
-}
-
-// A retired word that is the transfer t. Number 5 is the caller's to look for.
-pub fn retired(r: Registers, old: Entry, t: Transfer, w: RetiredWord) -> Decision
-    ensures { λ d. ⌜ d ≡ retiredOf r old t w ⌝ }
-{
-    done(r, old, retired_entry(t, w), retired_outcome(r, t, w.taken))
 }
 
 // A decision with the mode changed.

@@ -27,7 +27,7 @@ fn with_answer(h: u64, answer: Answer) -> u64 {
 }
 
 /// The digest of a list that goes on with every field and every entry of a state.
-fn with_state(h: u64, machine: &Machine) -> u64 {
+pub(super) fn with_state(h: u64, machine: &Machine) -> u64 {
     let h = extended(h, machine.registers.fields());
     extended(h, machine.entries.iter().flat_map(Entry::words))
 }

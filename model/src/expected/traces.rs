@@ -1,13 +1,14 @@
 //! The setups of the sample traces, and what `replay` is fed with: the samples behind their setups,
-//! a trace with every kind of row, and a damaged trace.
+//! a trace with every kind of row, and a damaged trace. Parts of the samples, likewise behind setups,
+//! are what `replay_sweep` is fed with.
 
-use std::io;
+use std::{io, iter};
 
 use crate::access::{Access, Operation};
 use crate::recorder::{Event, Retired, Trap, TrapReturn};
 use crate::registers::csr::{MCTRCTL, SCTRCTL, SCTRDEPTH, SISELECT, VSCTRCTL, VSISELECT};
 use crate::registers::Mode;
-use crate::replay::{bytes_of, encode, replay, Printed, Row, ROW_BYTES};
+use crate::replay::{bytes_of, encode, replay, row_of, Printed, Row, ROW_BYTES};
 
 const USER: &[u8] = include_bytes!("../../../examples/traces/user.rows");
 const GUEST: &[u8] = include_bytes!("../../../examples/traces/guest.rows");
@@ -33,6 +34,9 @@ const ALL_BRANCHES: Setup = &[
     (MCTRCTL, 0x10_0000_0007),
     (VSCTRCTL, 0x10_0000_0003),
 ];
+
+/// The row of the user sample where M returns to the user program, which is soon interrupted.
+const RETURN_TO_USER: usize = 2189;
 
 /// One more CSR number than there is.
 const NO_CSR: u64 = 4096;
@@ -83,11 +87,13 @@ fn line(word: &str) -> String {
 }
 
 fn setup(writes: Setup) -> Vec<u8> {
-    bytes_of(
-        writes
-            .iter()
-            .map(|(csr, operand)| access(Operation::Write, *csr, *operand)),
-    )
+    bytes_of(setup_rows(writes))
+}
+
+fn setup_rows(writes: Setup) -> impl Iterator<Item = Row> {
+    writes
+        .iter()
+        .map(|(csr, operand)| access(Operation::Write, *csr, *operand))
 }
 
 fn access(operation: Operation, csr: u64, operand: u64) -> Row {
@@ -104,6 +110,23 @@ fn user() -> Vec<u8> {
 
 fn guest() -> Vec<u8> {
     [&setup(ALL_MODES), GUEST].concat()
+}
+
+/// A part of the user sample, for a run from reset.
+pub(super) fn user_rows() -> impl Iterator<Item = Row> {
+    setup_rows(EXTERNAL).chain(rows(USER).skip(RETURN_TO_USER))
+}
+
+/// The guest sample, for a run from any good state: a trap leads to M first.
+pub(super) fn guest_rows() -> impl Iterator<Item = Row> {
+    iter::once(trap(Mode::M, true, 0xD000))
+        .chain(setup_rows(ALL_BRANCHES))
+        .chain(rows(GUEST))
+}
+
+fn rows(sample: &[u8]) -> impl Iterator<Item = Row> + '_ {
+    let (rows, _) = sample.as_chunks();
+    rows.iter().map(row_of)
 }
 
 /// Every operation, every setting of the host's, every mode as the target of a return and of both

@@ -1,4 +1,5 @@
-//! The trace that is timed: pieces of the sample traces, each behind a setup, and random events.
+//! The traces that are timed: the sample traces behind setups, whole or in pieces among random
+//! events.
 
 use std::fs;
 use std::io;
@@ -12,7 +13,7 @@ use model::registers::csr::SCTRSTATUS;
 use model::registers::Mode;
 use model::replay::{bytes_of, decode, encode, row_of};
 
-/// How many events a piece has, its setup apart.
+/// How many events a piece of the mixed trace has, its setup apart.
 const PIECE: usize = 2000;
 
 /// A sample trace: its events with the mode that each comes in, and the setups that suit it.
@@ -39,18 +40,23 @@ impl Sample {
         })
     }
 
-    /// A piece that starts anywhere, in the mode that it was taken in.
+    /// A piece that starts anywhere, behind one of the setups.
     fn piece(&self, random: &mut Random) -> Vec<Event> {
         let setup = random.one_of(&self.setups);
         let start = random.below(self.events.len());
-        let rest = self.events[start..].iter().take(PIECE);
-        let (mode, _) = self.events[start];
-        let mut events = vec![enter_m()];
-        events.extend(setup);
-        events.extend([thaw(), leave_m(mode)]);
-        events.extend(rest.map(|(_, event)| event));
-        events
+        let end = self.events.len().min(start + PIECE);
+        behind(setup, &self.events[start..end])
     }
+}
+
+/// Sample events behind a setup, in the mode that the first was taken in.
+fn behind(setup: &[Event], sample: &[(Mode, Event)]) -> Vec<Event> {
+    let (mode, _) = sample[0];
+    let mut events = vec![enter_m()];
+    events.extend(setup);
+    events.extend([thaw(), leave_m(mode)]);
+    events.extend(sample.iter().map(|(_, event)| event));
+    events
 }
 
 fn read_events(path: &Path) -> io::Result<Vec<Event>> {
@@ -109,22 +115,42 @@ fn thaw() -> Event {
     })
 }
 
-/// As many events, as the bytes of a trace. One of four pieces is random.
-pub fn mixed_trace(samples: &Path, count: usize) -> io::Result<Vec<u8>> {
-    let samples = [
+fn read_samples(folder: &Path) -> io::Result<[Sample; 2]> {
+    Ok([
         Sample::read(
-            samples,
+            folder,
             "user.rows",
             &["history.setup", "external.setup", "call-stack.setup"],
         )?,
-        Sample::read(samples, "guest.rows", &["guest.setup"])?,
-    ];
+        Sample::read(folder, "guest.rows", &["guest.setup"])?,
+    ])
+}
+
+/// As many events, as the bytes of a trace. One of four pieces is random.
+pub fn mixed_trace(folder: &Path, count: usize) -> io::Result<Vec<u8>> {
+    let samples = read_samples(folder)?;
     let mut random = Random(SEED);
     let mut events = vec![];
     while events.len() < count {
         match random.below(4) {
             0 => events.extend(random_events(random.draw()).take(PIECE)),
             _ => events.extend(random.one_of(&samples).piece(&mut random)),
+        }
+    }
+    Ok(bytes_of(events.into_iter().take(count).map(encode)))
+}
+
+/// As many events, as the bytes of a trace: both samples in turn, whole, each behind its next setup.
+pub fn sample_trace(folder: &Path, count: usize) -> io::Result<Vec<u8>> {
+    let samples = read_samples(folder)?;
+    let mut events = vec![];
+    for round in 0.. {
+        if events.len() >= count {
+            break;
+        }
+        for sample in &samples {
+            let setup = &sample.setups[round % sample.setups.len()];
+            events.extend(behind(setup, &sample.events));
         }
     }
     Ok(bytes_of(events.into_iter().take(count).map(encode)))

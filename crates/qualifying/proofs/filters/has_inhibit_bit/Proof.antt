@@ -1,4 +1,5 @@
 -- `qualifying::filters::has_inhibit_bit` meets its contract. Assumes nothing.
+use Rattle.qualifying.proofs.Laws.{type-lt, at-inhibit-place}
 use Rattle.qualifying.proofs.filters.has_inhibit_bit.Statement.{statement}
 use Rattle.qualifying.proofs.filters.has_inhibit_bit.Tie as tie
 
@@ -7,5 +8,6 @@ has-inhibit-bit-spec =
     tie.close
     (tie.spec
     (λ c κs. tt)
+    (λ c κs. search type-lt)
     (λ c κs. tt)
-    (λ c. cc))
+    (λ c. search at-inhibit-place))

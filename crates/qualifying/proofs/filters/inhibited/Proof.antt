@@ -10,8 +10,8 @@ inhibited-spec =
     tie.close
     (tie.spec
     (λ c κs. tt)
-    (λ c κs. tt)
-    (λ c κs. tt)
+    (λ c κs. cc)
+    (λ c κs. cc)
     (λ c. search picks depth 9)
     (λ c. search picks depth 9)
     (λ c. search picks depth 9))

@@ -7,11 +7,11 @@ use Rattle.replay.proofs.runs.run_file.Statement.{statement}
 use Rattle.replay.proofs.runs.run_file.Tie as tie
 
 abbrev Inv-loop : tie.InvT-loop
-Inv-loop ctrsource₀ ctrtarget₀ ctrdata₀ counts₀ out₀ fd input₀ next₀ blocks₀ ctrsource ctrtarget ctrdata counts out input next blocks =
+Inv-loop ctrsource₀ ctrtarget₀ ctrdata₀ counts₀ out₀ fd input₀ words₀ answers₀ next₀ blocks₀ ctrsource ctrtarget ctrdata counts out input words answers next blocks =
     (length input ≡ 65536) × (length out ≡ length out₀)
 
 abbrev μ-loop : tie.MeasureT-loop
-μ-loop ctrsource₀ ctrtarget₀ ctrdata₀ counts₀ out₀ fd input₀ next₀ blocks₀ ctrsource ctrtarget ctrdata counts out input next blocks = blocks
+μ-loop ctrsource₀ ctrtarget₀ ctrdata₀ counts₀ out₀ fd input₀ words₀ answers₀ next₀ blocks₀ ctrsource ctrtarget ctrdata counts out input words answers next blocks = blocks
 
 pub run-file-spec : {M : Type 1} → statement M
 run-file-spec =
@@ -28,8 +28,8 @@ run-file-spec =
     (λ c κs. tt)
     (λ c κs. tt)
     (λ c κs. tt)
-    (λ c. let at = c .before .before .before .before .before .before .before .before .before .before .before .before .before .before .before in omega (arith, at .loop-test .taken))
-    (λ c. let at = c .before .before .before .before .before .before .before .before .before .before .before in search (needs, c .before .before .out .given, c .before .before .before .run-rows, at .input2 .given, at .before .before .input .given, at .before .before .before .before .before .loop .inv))
+    (λ c. let at = c .before .before .before .before .before .before .before .before .before .before .before .before .before .before .before .before .before in omega (arith, at .loop-test .taken))
+    (λ c. let at = c .before .before .before .before .before .before .before .before .before .before .before .before .before in search (needs, c .before .before .out .given, c .before .before .before .run-input, at .input2 .given, at .before .before .input .given, at .before .before .before .before .before .loop .inv))
     (λ c. search needs)
     (λ c. search needs)
     (λ c. search needs)

@@ -12,6 +12,7 @@ access-row-spec =
     (λ c κs. tt)
     (λ c κs. tt)
     (λ c κs. tt)
+    (λ c κs. tt)
     (λ c. search picks depth 9)
     (λ c. search picks depth 9)
     (λ c. search picks depth 9)

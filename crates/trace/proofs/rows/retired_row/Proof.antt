@@ -10,6 +10,8 @@ retired-row-spec =
     tie.close
     (tie.spec
     (λ c κs. tt)
+    (λ c κs. cc)
     (λ c κs. tt)
+    (λ c. search picks depth 9)
     (λ c. search picks depth 9)
     (λ c. search picks depth 9))

@@ -11,6 +11,7 @@ return-row-spec =
     (tie.spec
     (λ c κs. tt)
     (λ c κs. tt)
+    (λ c κs. tt)
     (λ c. search picks depth 9)
     (λ c. search picks depth 9)
     (λ c. search picks depth 9))

@@ -1,0 +1,89 @@
+//! What is printed of a trace after its answers.
+
+use super::recorder::{Recorder, V};
+use super::run::Run;
+
+const NUMBERS: [&str; 5] = [
+    "answered",
+    "illegal instruction",
+    "virtual instruction",
+    "no such register",
+    "mode change not possible",
+];
+
+const VALUES: [&str; 5] = [
+    "nothing",
+    "recorded",
+    "return popped",
+    "swapped in place",
+    "frozen by this trap",
+];
+
+const TYPES: [&str; 16] = [
+    "none",
+    "exception",
+    "interrupt",
+    "trap return",
+    "branch not taken",
+    "branch taken",
+    "reserved",
+    "reserved",
+    "indirect call",
+    "direct call",
+    "indirect jump",
+    "direct jump",
+    "co-routine swap",
+    "function return",
+    "other indirect jump",
+    "other direct jump",
+];
+
+impl Run {
+    pub fn report(&self) -> String {
+        let mut numbers = self.refusals;
+        numbers[0] = self.values.iter().sum::<u64>() + self.others;
+        let mut text = format!("events {}\n", numbers.iter().sum::<u64>());
+        text += &counts(&NUMBERS, &numbers);
+        text += &counts(&VALUES, &self.values);
+        text += &registers(&self.recorder);
+        text += &valid_entries(&self.recorder);
+        text
+    }
+}
+
+/// The words of what occurred, each with how often it did.
+fn counts(words: &[&str], counts: &[u64]) -> String {
+    words
+        .iter()
+        .zip(counts)
+        .filter(|(_, count)| **count > 0)
+        .map(|(words, count)| format!("{words}: {count}\n"))
+        .collect()
+}
+
+fn registers(recorder: &Recorder) -> String {
+    let readings = [
+        ("mctrctl", recorder.mctrctl),
+        ("vsctrctl", recorder.vsctrctl),
+        ("sctrdepth", recorder.depth_code()),
+        ("sctrstatus", recorder.status()),
+        ("siselect", recorder.siselect),
+        ("vsiselect", recorder.vsiselect),
+        ("mstateen0.CTR", recorder.mstateen0_ctr.into()),
+        ("hstateen0.CTR", recorder.hstateen0_ctr.into()),
+    ];
+    let lines = readings.map(|(name, reading)| format!("{name} {reading:#x}\n"));
+    format!("mode {:?}\n", recorder.mode) + &lines.concat()
+}
+
+/// The valid ones of the entries in use, in logical order.
+fn valid_entries(recorder: &Recorder) -> String {
+    (0..=recorder.last)
+        .map(|index| (index, recorder.entries[recorder.physical(index)]))
+        .filter(|(_, entry)| entry.source & V == V)
+        .map(|(index, entry)| {
+            let (source, name) = (entry.source & !V, TYPES[entry.data as usize]);
+            format!("{index} {source:#x} -> {:#x} {name}\n", entry.target)
+        })
+        .collect()
+}

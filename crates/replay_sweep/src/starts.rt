@@ -1,0 +1,30 @@
+// Start states that are made bad.
+use machine::Registers;
+use machine::depths::depth;
+use recorder::State;
+
+// Good registers made bad, in one of the four ways there are.
+fn made_bad(r: Registers, way: usize) -> Registers {
+    let past_last = depth(r.buffer.code);
+    let mctrctl = r.controls.mctrctl | 0x8000_0000_0000_0000;
+    let vsctrctl = r.controls.vsctrctl | 4;
+    let mut q = r;
+    match way % 4 {
+        0 => q.buffer.code = 4,
+        1 => q.buffer.wrptr = past_last,
+        2 => q.controls.mctrctl = mctrctl,
+        _ => q.controls.vsctrctl = vsctrctl,
+    }
+    q
+}
+
+// A state, or that state made bad.
+pub(crate) fn start(s: State, bad: bool, way: usize) -> State {
+    let mut q = s;
+    if bad {
+        let r = s.registers;
+        let registers = made_bad(r, way);
+        q.registers = registers;
+    }
+    q
+}

@@ -1,0 +1,17 @@
+-- `trace::rows::plain_row` meets its contract. Assumes nothing.
+use Rattle.bits.proofs.Picks.{picks}
+use Rattle.trace.specs.Rows.{plainRow}
+use Rattle.trace.proofs.rows.plain_row.Statement.{statement}
+use Rattle.trace.proofs.rows.plain_row.Tie as tie
+
+pub plain-row-spec : {M : Type 1} → statement M
+unfolding plainRow
+plain-row-spec =
+    tie.close
+    (tie.spec
+    (λ c κs. tt)
+    (λ c κs. tt)
+    (λ c κs. tt)
+    (λ c. search picks depth 9)
+    (λ c. search picks depth 9)
+    (λ c. search picks depth 9))

@@ -1,0 +1,18 @@
+-- `trace::runs::run_host` meets its contract. Assumes nothing.
+use Rattle.trace.proofs.RunLaws.{run-yes, run-no}
+use Rattle.trace.specs.Rows.{plainRow}
+use Rattle.trace.proofs.runs.run_host.Statement.{statement}
+use Rattle.trace.proofs.runs.run_host.Tie as tie
+
+pub run-host-spec : {M : Type 1} → statement M
+unfolding plainRow
+run-host-spec =
+    tie.close
+    (tie.spec
+    (λ c κs. tt)
+    (λ c κs. tt)
+    (λ c κs. tt)
+    (λ c κs. tt)
+    (λ c κs. tt)
+    (λ c. search (run-yes, run-no))
+    (λ c. search (run-yes, run-no)))
