@@ -4,7 +4,8 @@
 mod qualifying;
 
 use self::qualifying::{
-    is_inhibited, is_possible_return, is_possible_trap, EXCEPTION, INTERRUPT, TRAP_RETURN,
+    is_emulating, is_inhibited, is_possible_return, is_possible_trap, EXCEPTION, INTERRUPT,
+    TRAP_RETURN,
 };
 use crate::access::{granted, refused, Access, Answer, BAD_STATE, GRANTED};
 use crate::classifier::{transfer_type, DIRECT_CALL, INDIRECT_CALL, NONE, RETURN, SWAP};
@@ -123,9 +124,10 @@ impl Machine {
             return NOTHING;
         }
         let record = record(retired.pc, retired.target, number);
-        if self.registers.is_emulating(mode) {
+        let control = self.registers.governing_control(mode, mode);
+        if is_emulating(control) {
             self.emulate(record, number)
-        } else if is_inhibited(self.registers.control(mode), number) {
+        } else if is_inhibited(control, number) {
             NOTHING
         } else {
             self.enter(record)
@@ -151,7 +153,8 @@ impl Machine {
     fn trap_record(&self, trap: &Trap) -> Option<Entry> {
         let registers = &self.registers;
         let (source, target) = (registers.mode, trap.target_mode);
-        if registers.frozen || registers.is_emulating(source) {
+        let control = registers.governing_control(source, target);
+        if registers.frozen || is_emulating(control) {
             return None;
         }
         let number = if trap.is_interrupt {
@@ -159,7 +162,7 @@ impl Machine {
         } else {
             EXCEPTION
         };
-        let is_inhibited = is_inhibited(registers.control(source), number);
+        let is_inhibited = is_inhibited(control, number);
         match (registers.is_on(source), registers.is_on(target)) {
             (true, true) if !is_inhibited => Some(record(trap.epc, trap.handler, number)),
             (false, true) if !is_inhibited => Some(record(NO_PC, trap.handler, number)),
@@ -182,20 +185,21 @@ impl Machine {
     /// What is recorded of a possible trap return.
     fn return_record(&self, trap_return: &TrapReturn) -> Option<Entry> {
         let registers = &self.registers;
-        let source = registers.mode;
+        let (source, target) = (registers.mode, trap_return.target_mode);
+        let control = registers.governing_control(source, target);
         if registers.frozen
-            || registers.is_emulating(source)
+            || is_emulating(control)
             || !registers.is_on(source)
-            || is_inhibited(registers.control(source), TRAP_RETURN)
+            || is_inhibited(control, TRAP_RETURN)
         {
             return None;
         }
-        let target = if registers.is_on(trap_return.target_mode) {
+        let shown = if registers.is_on(target) {
             trap_return.target
         } else {
             NO_PC
         };
-        Some(record(trap_return.pc, target, TRAP_RETURN))
+        Some(record(trap_return.pc, shown, TRAP_RETURN))
     }
 
     fn access(&mut self, access: Access) -> Answer {

@@ -7,7 +7,7 @@ mod rows;
 use std::io::{self, Read};
 
 use self::command::{command, Command, Options, USAGE};
-pub use self::report::Run;
+pub use self::report::{Run, NUMBERS, TYPES, VALUES};
 pub use self::rows::{bytes_of, decode, encode, row_of, BrokenWord, Row, ROW_BYTES};
 
 /// What goes to standard output and to standard error.

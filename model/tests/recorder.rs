@@ -1,6 +1,8 @@
 //! What events make of the whole recorder: published cases, slips that are easily made, and the
 //! rules one by one (docs/RULES.md).
 
+use std::iter;
+
 use model::access::{Access, Answer, Operation};
 use model::recorder::{Event, Machine, Retired, Trap, TrapReturn};
 use model::registers::{Entry, Mode, Registers};
@@ -103,6 +105,31 @@ fn other(mode: Mode) -> Mode {
     } else {
         VS
     }
+}
+
+/// Trap returns from V=0 to V=1, and traps from V=1 to V=0.
+const GUEST_ENTRIES: [(Mode, Mode); 4] = [(S, VS), (S, VU), (M, VS), (M, VU)];
+const GUEST_EXITS: [(Mode, Mode); 4] = [(VS, S), (VS, M), (VU, S), (VU, M)];
+
+/// A mode that has the control register whose RASEMU and inhibits govern a trap or a return.
+fn governing(source: Mode, target: Mode) -> Mode {
+    if GUEST_ENTRIES.contains(&(source, target)) || GUEST_EXITS.contains(&(source, target)) {
+        VS
+    } else {
+        source
+    }
+}
+
+/// The bits of a mask in every combination, from all of them down to none.
+fn subsets(mask: u64) -> impl Iterator<Item = u64> {
+    iter::successors(Some(mask), move |bits| {
+        bits.checked_sub(1).map(|below| below & mask)
+    })
+}
+
+/// The bits of two masks in every combination, those for vsctrctl and those for mctrctl.
+fn in_each_register(vs_mask: u64, mask: u64) -> impl Iterator<Item = (u64, u64)> {
+    subsets(vs_mask).flat_map(move |vs_bits| subsets(mask).map(move |bits| (vs_bits, bits)))
 }
 
 /// The switch of a mode in its control register.
@@ -391,7 +418,8 @@ fn frozen_keeps_all_but_the_mode() {
     for rasemu in [0, RASEMU] {
         for mode in Mode::ALL {
             let mut start = machine(mode, &Mode::ALL);
-            *control(&mut start, mode) |= rasemu;
+            start.registers.mctrctl |= rasemu;
+            start.registers.vsctrctl |= rasemu;
             start.registers.frozen = true;
             for (word, _, _) in TRANSFERS {
                 let result = outcome(&start, retired(word, true));
@@ -495,15 +523,16 @@ fn words_without_a_type_and_untaken_jumps() {
     assert_eq!(outcome(&start, retired(DIRECT_CALL, false)), expected);
 }
 
-/// On or off on both sides, without external bits; inhibits are those of the source's register.
+/// On or off on both sides, without external bits; inhibits are those of the register that governs.
 #[test]
-fn traps_go_by_both_switches_and_the_sources_inhibits() {
+fn traps_go_by_both_switches_and_the_inhibits_that_govern() {
     for (source, target) in pairs(POSSIBLE_TRAPS) {
         for on in [&[][..], &[source], &[target], &[source, target]] {
             for inhibits in [0, EXCINH, INTRINH, EXCINH | INTRINH] {
                 let mut start = machine(source, on);
-                *control(&mut start, source) |= inhibits;
-                *control(&mut start, other(source)) |= !inhibits & (EXCINH | INTRINH);
+                let governing = governing(source, target);
+                *control(&mut start, governing) |= inhibits;
+                *control(&mut start, other(governing)) |= !inhibits & (EXCINH | INTRINH);
                 check_trap(&start, exception(target), (on, target), (1, EXCINH));
                 check_trap(&start, interrupt(target), (on, target), (2, INTRINH));
             }
@@ -519,7 +548,7 @@ fn check_trap(
     (number, bit): (u64, u64),
 ) {
     let source = start.registers.mode;
-    let is_inhibited = *control(&mut start.clone(), source) & bit != 0;
+    let is_inhibited = *control(&mut start.clone(), governing(source, target)) & bit != 0;
     let expected = if !on.contains(&target) || is_inhibited {
         nothing(start, target)
     } else if on.contains(&source) {
@@ -530,26 +559,28 @@ fn check_trap(
     assert_eq!(outcome(start, event), expected);
 }
 
-/// All pairs that have external traps, with the bits needed: VSTE, STE and MTE.
+/// All pairs that have external traps, with the bits needed: VSTE in vsctrctl, STE and MTE in
+/// mctrctl.
+const EXTERNAL_TRAPS: [(Mode, Mode, u64, u64); 8] = [
+    (U, S, 0, STE),
+    (U, M, 0, STE | MTE),
+    (S, M, 0, MTE),
+    (VU, VS, STE, 0),
+    (VU, S, STE, STE),
+    (VU, M, STE, STE | MTE),
+    (VS, S, 0, STE),
+    (VS, M, 0, STE | MTE),
+];
+
 #[test]
 fn external_traps_need_the_bits_of_the_table() {
-    let needs = [
-        (U, S, [0, 1, 0]),
-        (U, M, [0, 1, 1]),
-        (S, M, [0, 0, 1]),
-        (VU, VS, [1, 0, 0]),
-        (VU, S, [1, 1, 0]),
-        (VU, M, [1, 1, 1]),
-        (VS, S, [0, 1, 0]),
-        (VS, M, [0, 1, 1]),
-    ];
-    for (source, target, needed) in needs {
-        for given in (0..8).map(|i| [i / 4, i / 2 % 2, i % 2]) {
+    for (source, target, vs_needed, needed) in EXTERNAL_TRAPS {
+        for (vs_given, given) in in_each_register(STE, STE | MTE) {
             for on in lists_without(target) {
                 let mut start = machine(source, &on);
-                start.registers.vsctrctl |= STE * given[0];
-                start.registers.mctrctl |= (STE * given[1]) | (MTE * given[2]);
-                let is_enough = needed.iter().zip(given).all(|(n, g)| *n <= g);
+                start.registers.vsctrctl |= vs_given;
+                start.registers.mctrctl |= given;
+                let is_enough = vs_given & vs_needed == vs_needed && given & needed == needed;
                 let expected = if is_enough && on.contains(&source) {
                     recorded(&start, target, entry(CTRSOURCE, 0, 2))
                 } else {
@@ -574,14 +605,16 @@ fn lists_without(mode: Mode) -> Vec<Vec<Mode>> {
     lists
 }
 
+/// TRETINH is that of the register that governs.
 #[test]
-fn returns_go_by_the_source_and_hide_an_off_target() {
+fn returns_go_by_the_sources_switch_and_hide_an_off_target() {
     for (source, target) in pairs(POSSIBLE_RETURNS) {
         for on in [&[][..], &[source], &[target], &[source, target]] {
             let mut start = machine(source, on);
             start.registers.mctrctl |= ALL_INHIBITS & !TRETINH;
             start.registers.vsctrctl |= ALL_INHIBITS & !TRETINH;
-            *control(&mut start, other(source)) |= TRETINH;
+            let governing = governing(source, target);
+            *control(&mut start, other(governing)) |= TRETINH;
             let shown = if on.contains(&target) { CTRTARGET } else { 0 };
             let expected = if on.contains(&source) {
                 recorded(&start, target, entry(CTRSOURCE, shown, 3))
@@ -590,7 +623,7 @@ fn returns_go_by_the_source_and_hide_an_off_target() {
             };
             assert_eq!(outcome(&start, trap_return(target)), expected);
 
-            *control(&mut start, source) |= TRETINH;
+            *control(&mut start, governing) |= TRETINH;
             let expected = nothing(&start, target);
             assert_eq!(outcome(&start, trap_return(target)), expected);
         }
@@ -650,45 +683,180 @@ fn rasemu_does_nothing_in_a_mode_that_is_off() {
 
 /// Neither from a mode that is on nor from one that is off; external bits don't help.
 #[test]
-fn rasemu_of_the_source_keeps_traps_and_returns_out() {
+fn rasemu_that_governs_keeps_traps_and_returns_out() {
     let lists = |source, target| [vec![source], vec![target], vec![source, target]];
-    let start = |source, on: &[Mode]| {
+    let start = |source, target, on: &[Mode]| {
         let mut start = machine(source, on);
         *control(&mut start, M) |= MTE | STE;
         *control(&mut start, VS) |= STE;
-        *control(&mut start, source) |= RASEMU;
+        *control(&mut start, governing(source, target)) |= RASEMU;
         start
     };
     for (source, target) in pairs(POSSIBLE_TRAPS) {
         for on in lists(source, target) {
-            let start = start(source, &on);
+            let start = start(source, target, &on);
             let result = outcome(&start, exception(target));
             assert_eq!(result, nothing(&start, target));
         }
     }
     for (source, target) in pairs(POSSIBLE_RETURNS) {
         for on in lists(source, target) {
-            let start = start(source, &on);
+            let start = start(source, target, &on);
             let result = outcome(&start, trap_return(target));
             assert_eq!(result, nothing(&start, target));
         }
     }
 }
 
-/// The RASEMU of the target's register is not asked, of returns into a guest neither.
+/// Neither that of the mode that a trap out of a guest leads to, nor that of the mode that a return
+/// into a guest comes from.
 #[test]
 fn rasemu_of_the_other_register_is_not_asked() {
-    for (source, target) in [(VU, S), (VU, M), (VS, S), (VS, M)] {
+    let start = |source, governing| {
         let mut start = machine(source, &Mode::ALL);
-        *control(&mut start, target) |= RASEMU;
+        *control(&mut start, other(governing)) |= RASEMU;
+        start
+    };
+    for mode in Mode::ALL {
+        for (word, number, _) in TRANSFERS {
+            let start = start(mode, mode);
+            let expected = recorded(&start, mode, entry(CTRSOURCE, CTRTARGET, number));
+            assert_eq!(outcome(&start, retired(word, true)), expected);
+        }
+    }
+    for (source, target) in pairs(POSSIBLE_TRAPS) {
+        let start = start(source, governing(source, target));
         let expected = recorded(&start, target, entry(CTRSOURCE, CTRTARGET, 1));
         assert_eq!(outcome(&start, exception(target)), expected);
     }
-    for (source, target) in [(S, VS), (S, VU), (M, VS), (M, VU)] {
-        let mut start = machine(source, &Mode::ALL);
-        *control(&mut start, target) |= RASEMU;
+    for (source, target) in pairs(POSSIBLE_RETURNS) {
+        let start = start(source, governing(source, target));
         let expected = recorded(&start, target, entry(CTRSOURCE, CTRTARGET, 3));
         assert_eq!(outcome(&start, trap_return(target)), expected);
+    }
+}
+
+/// RASEMU and TRETINH in each register or not, both sides on or off.
+#[test]
+fn returns_into_a_guest_go_by_vsctrctl() {
+    for (source, target) in GUEST_ENTRIES {
+        for on in [&[][..], &[source], &[target], &[source, target]] {
+            for (vs_bits, bits) in in_each_register(RASEMU | TRETINH, RASEMU | TRETINH) {
+                let mut start = machine(source, on);
+                start.registers.vsctrctl |= vs_bits;
+                start.registers.mctrctl |= bits;
+                let shown = if on.contains(&target) { CTRTARGET } else { 0 };
+                let expected = if vs_bits == 0 && on.contains(&source) {
+                    recorded(&start, target, entry(CTRSOURCE, shown, 3))
+                } else {
+                    nothing(&start, target)
+                };
+                assert_eq!(outcome(&start, trap_return(target)), expected);
+            }
+        }
+    }
+}
+
+/// RASEMU, EXCINH and INTRINH in each register or not, both sides on or off, without external bits.
+#[test]
+fn traps_out_of_a_guest_go_by_vsctrctl() {
+    let fields = RASEMU | EXCINH | INTRINH;
+    for (source, target) in GUEST_EXITS {
+        for on in [&[][..], &[source], &[target], &[source, target]] {
+            for (vs_bits, bits) in in_each_register(fields, fields) {
+                let mut start = machine(source, on);
+                start.registers.vsctrctl |= vs_bits;
+                start.registers.mctrctl |= bits;
+                let ctrsource = if on.contains(&source) { CTRSOURCE } else { 1 };
+                for (event, number, inhibit) in [
+                    (exception(target), 1, EXCINH),
+                    (interrupt(target), 2, INTRINH),
+                ] {
+                    let expected = if vs_bits & (RASEMU | inhibit) == 0 && on.contains(&target) {
+                        recorded(&start, target, entry(ctrsource, CTRTARGET, number))
+                    } else {
+                        nothing(&start, target)
+                    };
+                    assert_eq!(outcome(&start, event), expected);
+                }
+            }
+        }
+    }
+}
+
+/// STE and MTE stay those of mctrctl and VSTE that of vsctrctl, whichever register has RASEMU; that
+/// of vsctrctl alone is asked. All inhibits are set in one register or the other, and not asked.
+#[test]
+fn external_traps_out_of_a_guest_have_bits_in_both_registers() {
+    let is_exit = |source, target| GUEST_EXITS.contains(&(source, target));
+    let exits = EXTERNAL_TRAPS
+        .into_iter()
+        .filter(|(source, target, ..)| is_exit(*source, *target));
+    for (source, target, vs_needed, needed) in exits {
+        for (vs_bits, bits) in in_each_register(STE | RASEMU, STE | MTE | RASEMU) {
+            for inhibited in [M, VS] {
+                let mut start = machine(source, &[source]);
+                start.registers.vsctrctl |= vs_bits;
+                start.registers.mctrctl |= bits;
+                *control(&mut start, inhibited) |= ALL_INHIBITS;
+                let is_enough = vs_bits & vs_needed == vs_needed && bits & needed == needed;
+                let expected = if is_enough && vs_bits & RASEMU == 0 {
+                    recorded(&start, target, entry(CTRSOURCE, 0, 1))
+                } else {
+                    nothing(&start, target)
+                };
+                assert_eq!(outcome(&start, exception(target)), expected);
+            }
+        }
+    }
+}
+
+/// BPFRZ and LCOFIFRZ stay those of mctrctl, whichever register has RASEMU. A trap that doesn't
+/// freeze is recorded unless vsctrctl has RASEMU.
+#[test]
+fn traps_out_of_a_guest_freeze_by_mctrctl_alone() {
+    let fields = BPFRZ | LCOFIFRZ | RASEMU;
+    for (source, target) in GUEST_EXITS {
+        for (vs_bits, bits) in in_each_register(fields, fields) {
+            let mut start = machine(source, &Mode::ALL);
+            start.registers.vsctrctl |= vs_bits;
+            start.registers.mctrctl |= bits;
+            for (event, number, freezing) in [
+                (trap(target, false, 3), 1, BPFRZ),
+                (trap(target, true, 13), 2, LCOFIFRZ),
+            ] {
+                let expected = if bits & freezing != 0 {
+                    frozen(&start, target)
+                } else if vs_bits & RASEMU != 0 {
+                    nothing(&start, target)
+                } else {
+                    recorded(&start, target, entry(CTRSOURCE, CTRTARGET, number))
+                };
+                assert_eq!(outcome(&start, event), expected);
+            }
+        }
+    }
+}
+
+/// RASEMU of vsctrctl alone governs the guest and both edges, and nothing else.
+#[test]
+fn a_round_through_a_guest_under_rasemu() {
+    let mut machine = machine(S, &Mode::ALL);
+    machine.registers.vsctrctl |= RASEMU;
+    let events = [
+        (retired(BRANCH, true), 1),
+        (trap_return(VU), 0),
+        (retired(BRANCH, true), 0),
+        (retired(DIRECT_CALL, true), 1),
+        (retired(RETURN, true), 2),
+        (exception(S), 0),
+        (trap_return(U), 1),
+        (exception(S), 1),
+    ];
+    for (event, expected) in events {
+        let (value, after) = outcome(&machine, event);
+        assert_eq!(value, expected, "{event:x?}");
+        machine = after;
     }
 }
 

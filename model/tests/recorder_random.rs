@@ -289,6 +289,45 @@ fn addresses_on_the_side_of_an_off_mode_never_show() {
     assert!(count > ROUNDS / 4);
 }
 
+/// RASEMU, the inhibits and NTBREN.
+const GOVERNING_FIELDS: u64 = 1 << 7 | ALL_INHIBITS | 1 << 36;
+
+/// Where these fields differ in the register that doesn't govern a transfer, it does the same; in the
+/// one that governs, often not. With V=1 before or after, that is vsctrctl.
+#[test]
+fn one_register_governs_a_transfer() {
+    let mut random = Random(SEED);
+    let mut counts = [0; 2];
+    for _ in 0..ROUNDS {
+        let (before, event) = (random.machine(), random.event());
+        if !is_transfer(event) {
+            continue;
+        }
+        let is_virtual = before.registers.mode.is_virtual();
+        let is_virtual_after = mode_after(before.registers.mode, event).is_virtual();
+        let change = random.word() & GOVERNING_FIELDS;
+        for is_vsctrctl in [false, true] {
+            let changed = |mut machine: Machine| {
+                let registers = &mut machine.registers;
+                if is_vsctrctl {
+                    registers.vsctrctl ^= change;
+                } else {
+                    registers.mctrctl ^= change;
+                }
+                machine
+            };
+            let (mut one, mut two) = (before.clone(), changed(before.clone()));
+            let is_same = one.step(event) == two.step(event) && changed(one) == two;
+            if is_vsctrctl != (is_virtual || is_virtual_after) {
+                assert!(is_same, "{event:x?} in {:x?}", before.registers);
+            } else if !is_same {
+                counts[usize::from(is_virtual != is_virtual_after)] += 1;
+            }
+        }
+    }
+    assert!(counts.iter().all(|count| *count > 1_000), "{counts:?}");
+}
+
 #[test]
 fn bit_0_of_addresses_is_ignored() {
     let mut random = Random(SEED);

@@ -23,7 +23,7 @@ use Rattle.machine.specs.declared.Outcome.the-variants.{Nothing, Record, Pop, S
 use Rattle.recorder.specs.Events.{typeIn}
 use Rattle.machine.specs.declared.Event.{Event}
 use Rattle.machine.specs.declared.Event.the-variants.{Retired, Trap, TrapReturn, Access, Sctrclr, Host}
-use Rattle.demands.specs.Transfers.{On, ofSource, RASEMU, trapType, Freezes, Passes, Qualifies, Pops, Swaps}
+use Rattle.demands.specs.Transfers.{On, otherFields, RASEMU, trapType, Freezes, Passes, Qualifies, Pops, Swaps}
 use Rattle.demands.specs.Transfers.Freezes.{BPFRZ, LCOFIFRZ}
 use Rattle.demands.specs.Transfers.Qualifies.{retired, on-to-on, off-to-on, on-to-off, return, call}
 use Rattle.demands.specs.Transfers.Pops.{type-13}
@@ -54,32 +54,32 @@ passed r t p = fails (freezes r t (p .possible)) (p .freezes-not)
 
 pub qualifies-outcome : {r : Registers} {e : Event} → Qualifies r e → outcomeIn r e ≡ Record
 unfolding outcomeIn retiredOutcome liveOf liveOutcome onOutcome stackOutcome typeIn trapOutcome trapBy returnOutcome returnBy
-qualifies-outcome {r = r} (retired f m o a) =
-    rw (mode r (r .mode) .on o, rasemu r (r .mode) .off m, allowed-of r (r .mode) a, f)
+qualifies-outcome {r = r} (retired {w = w} f m o a) =
+    rw (mode r (r .mode) .on o, rasemu r (Retired w) .off m, allowed-of r (Retired w) a, f)
 qualifies-outcome {r = r} (on-to-on {t = t} p m o x a) =
     let to = t .mode in
-    rw (traps (r .mode) to .to (p .possible), passed r t p, rasemu r to .off m, mode r to .on x, allowed-of r to a, p .frozen-not)
+    rw (traps (r .mode) to .to (p .possible), passed r t p, rasemu r (Trap t) .off m, mode r to .on x, allowed-of r (Trap t) a, p .frozen-not)
 qualifies-outcome {r = r} (off-to-on {t = t} p m o x a) =
     let to = t .mode in
-    rw (traps (r .mode) to .to (p .possible), passed r t p, rasemu r to .off m, mode r to .on x, allowed-of r to a, p .frozen-not)
+    rw (traps (r .mode) to .to (p .possible), passed r t p, rasemu r (Trap t) .off m, mode r to .on x, allowed-of r (Trap t) a, p .frozen-not)
 qualifies-outcome {r = r} (on-to-off {t = t} p m o x y) =
     let to = t .mode in
-    rw (traps (r .mode) to .to (p .possible), passed r t p, rasemu r to .off m, mode r to .off x, mode r (r .mode) .on o, external-set y, p .frozen-not)
+    rw (traps (r .mode) to .to (p .possible), passed r t p, rasemu r (Trap t) .off m, mode r to .off x, mode r (r .mode) .on o, external-set y, p .frozen-not)
 qualifies-outcome {r = r} (return {t = t} p f m o a) =
     let to = t .mode in
-    rw (returns (r .mode) to .to p, rasemu r to .off m, mode r (r .mode) .on o, allowed-of r to a, f)
+    rw (returns (r .mode) to .to p, rasemu r (TrapReturn t) .off m, mode r (r .mode) .on o, allowed-of r (TrapReturn t) a, f)
 qualifies-outcome {r = r} (call {w = w} f m o c) =
-    rw (mode r (r .mode) .on o, rasemu r (r .mode) .on m, f) (⊎-elim (ap stackOutcome) (ap stackOutcome) c)
+    rw (mode r (r .mode) .on o, rasemu r (Retired w) .on m, f) (⊎-elim (ap stackOutcome) (ap stackOutcome) c)
 
 pub pops-outcome : {r : Registers} {e : Event} → Pops r e → outcomeIn r e ≡ Pop
 unfolding outcomeIn retiredOutcome liveOf liveOutcome onOutcome stackOutcome typeIn
 pops-outcome {r = r} (type-13 {w = w} f m o c) =
-    rw (mode r (r .mode) .on o, rasemu r (r .mode) .on m, f) (ap stackOutcome c)
+    rw (mode r (r .mode) .on o, rasemu r (Retired w) .on m, f) (ap stackOutcome c)
 
 pub swaps-outcome : {r : Registers} {e : Event} → Swaps r e → outcomeIn r e ≡ Swap
 unfolding outcomeIn retiredOutcome liveOf liveOutcome onOutcome stackOutcome typeIn
 swaps-outcome {r = r} (type-12 {w = w} f m o c) =
-    rw (mode r (r .mode) .on o, rasemu r (r .mode) .on m, f) (ap stackOutcome c)
+    rw (mode r (r .mode) .on o, rasemu r (Retired w) .on m, f) (ap stackOutcome c)
 
 pub freezes-outcome : {r : Registers} {e : Event} → Freezes r e → outcomeIn r e ≡ Freeze
 unfolding outcomeIn trapOutcome trapBy
@@ -87,7 +87,7 @@ freezes-outcome {r = r} (BPFRZ {t = t} p i c h) = rw (traps (r .mode) (t .mode) 
 freezes-outcome {r = r} (LCOFIFRZ {t = t} p i c h) = rw (traps (r .mode) (t .mode) .to p, freezes-set (LCOFIFRZ {t = t} p i c h))
 
 -- and each outcome comes of its relation
-emulated : (r : Registers) (w : RetiredWord) → r .buffer .frozen ≡ false → RASEMU r ≡ 1 → On r (r .mode)
+emulated : (r : Registers) (w : RetiredWord) → r .buffer .frozen ≡ false → RASEMU r (Retired w) ≡ 1 → On r (r .mode)
     → Says r (Retired w) (stackOutcome (wordType (w .word) (w .taken)))
 unfolding stackOutcome
 emulated r w f m o = go (eqb n 8) refl (eqb n 9) refl (eqb n 12) refl (eqb n 13) refl
@@ -107,6 +107,9 @@ retired-says : (r : Registers) (w : RetiredWord) → Says r (Retired w) (retired
 unfolding retiredOutcome liveOf liveOutcome onOutcome typeIn
 retired-says r w = go (onOf r m) refl (r .buffer .frozen) refl (rasemuOf r m m) refl (inhibitedOf r c n) refl
   where
+    e : Event
+    e = Retired w
+
     m : Mode
     m = r .mode
 
@@ -119,10 +122,11 @@ retired-says r w = go (onOf r m) refl (r .buffer .frozen) refl (rasemuOf r m m) 
     go : (on : Bool) → onOf r m ≡ on → (fr : Bool) → r .buffer .frozen ≡ fr → (ra : Bool) → rasemuOf r m m ≡ ra
         → (inh : Bool) → inhibitedOf r c n ≡ inh
         → Says r (Retired w) (if on && not fr then (if ra then stackOutcome n else (if inh then Nothing else Record)) else Nothing)
-    go true o false f true a inh i = emulated r w f (rasemu r m .is-on a) (mode r m .is-on o)
+    go true o false f true a inh i = emulated r w f (rasemu r e .is-on a) (mode r m .is-on o)
     go true o false f false a true i = tt
     go true o false f false a false i =
-        retired f (rasemu r m .is-off a) (mode r m .is-on o) (allows-word r (ofSource r) (transferOf (w .word)) (w .taken) (rw (governing-is r m) at i))
+        retired f (rasemu r e .is-off a) (mode r m .is-on o)
+        (allows-word r (otherFields r e) (transferOf (w .word)) (w .taken) (rw (governing-is r e) at i))
     go true o true f ra a inh i = tt
     go false o fr f ra a inh i = tt
 
@@ -132,6 +136,9 @@ trap-says r t =
     go (possibleTrap m to) refl (freezesOf r t) refl (r .buffer .frozen) refl (rasemuOf r m to) refl
     (onOf r m) refl (onOf r to) refl (inhibitedOf r c (trapType (t .interrupt))) refl (externalOf r m to) refl
   where
+    e : Event
+    e = Trap t
+
     m : Mode
     m = r .mode
 
@@ -156,13 +163,13 @@ trap-says r t =
     go true p false z false f true a so o ta x inh i ext y = tt
     go true p false z false f false a so o true x true i ext y = tt
     go true p false z false f false a true o true x false i ext y =
-        on-to-on (passes p z f) (rasemu r to .is-off a) (mode r m .is-on o) (mode r to .is-on x)
-        (allows-trap r (ofSource r) (t .interrupt) (rw (governing-is r to) at i))
+        on-to-on (passes p z f) (rasemu r e .is-off a) (mode r m .is-on o) (mode r to .is-on x)
+        (allows-trap r (otherFields r e) (t .interrupt) (rw (governing-is r e) at i))
     go true p false z false f false a false o true x false i ext y =
-        off-to-on (passes p z f) (rasemu r to .is-off a) (mode r m .is-off o) (mode r to .is-on x)
-        (allows-trap r (ofSource r) (t .interrupt) (rw (governing-is r to) at i))
+        off-to-on (passes p z f) (rasemu r e .is-off a) (mode r m .is-off o) (mode r to .is-on x)
+        (allows-trap r (otherFields r e) (t .interrupt) (rw (governing-is r e) at i))
     go true p false z false f false a true o false x inh i true y =
-        on-to-off (passes p z f) (rasemu r to .is-off a) (mode r m .is-on o) (mode r to .is-off x)
+        on-to-off (passes p z f) (rasemu r e .is-off a) (mode r m .is-on o) (mode r to .is-off x)
         (external-is r (traps m to .from p) y)
     go true p false z false f false a true o false x inh i false y = tt
     go true p false z false f false a false o false x inh i ext y = tt
@@ -173,6 +180,9 @@ unfolding returnOutcome returnBy
 return-says r t =
     go (possibleReturn m to) refl (r .buffer .frozen) refl (rasemuOf r m to) refl (onOf r m) refl (inhibitedOf r c 3) refl
   where
+    e : Event
+    e = TrapReturn t
+
     m : Mode
     m = r .mode
 
@@ -191,8 +201,8 @@ return-says r t =
     go true p false f false a false o inh i = tt
     go true p false f false a true o true i = tt
     go true p false f false a true o false i =
-        return (returns m to .from p) f (rasemu r to .is-off a) (mode r m .is-on o)
-        (allows-return r (ofSource r) (rw (governing-is r to) at i))
+        return (returns m to .from p) f (rasemu r e .is-off a) (mode r m .is-on o)
+        (allows-return r (otherFields r e) (rw (governing-is r e) at i))
 
 pub says : (r : Registers) (e : Event) → Says r e (outcomeIn r e)
 unfolding outcomeIn

@@ -75,9 +75,9 @@ module _ (every : EveryRow) where
   walk (suc n) (w ∷ x ∷ y ∷ z ∷ ws) h = go (rowOf w x y z) refl (walk n ws (omega arith))
     where
       go : (r : Row) → rowOf w x y z ≡ r → Walk ws n → Walk (w ∷ x ∷ y ∷ z ∷ ws) (suc n)
-      go (Row.WellFormed e) p more = after-row w x y z ws n e (every .decoded (words w x y z) e .0 p) more
+      go (Row.WellFormed e) p more = after-row w x y z ws n e (every .decoded (words w x y z) e .0 (sym p)) more
       go (Row.Malformed k) p more =
-          let none : Malformed (words w x y z) = λ e q. no-event p (every .decoded (words w x y z) e .1 q) in
+          let none : Malformed (words w x y z) = λ e q. no-event p (sym (every .decoded (words w x y z) e .1 q)) in
           Walk.stops [] (omega arith) (record { w = w; x = x; y = y; z = z; rest = ws; fit = tt; malformed = none; same = refl })
 
   module _ (s : State) (ws a : List ℕ) where

@@ -1,6 +1,6 @@
 -- What `EveryRow` states. Assumes nothing.
 use Prim.Native.Nat.{ℕ, zero, suc, _+_, _*_, _%_, _<_}
-use mathlib.Core.Path.{_≡_, refl, ap, subst, _∙_}
+use mathlib.Core.Path.{_≡_, refl, sym, ap, subst, _∙_}
 use mathlib.Core.Bool.{Bool, true, false}
 use native.Mathlib.Omega.{arith}
 use lib.Dec.{eqb, ltb}
@@ -208,6 +208,6 @@ of-row w e h = of-right (subst (Right w) h (right (w .zero) (w .one) (w .two) (w
 pub every-row : EveryRow
 every-row =
     record {
-      decoded = (λ w e. (of-row w e, to-event w e));
+      decoded = (λ w e. ((λ h. of-row w e (sym h)), (λ p. sym (to-event w e p))));
       only = (λ w e f p q. cc (to-event w e p, to-event w f q));
     }

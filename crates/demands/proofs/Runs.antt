@@ -81,7 +81,7 @@ module _ (every : EveryRow) (ws : List ℕ) (s : State) (a : List ℕ) where
       let u = stepOf t e in
       let row : rowAt ws i ≡ Row.WellFormed e =
       ap (λ (v : List ℕ). rowAt v i) same ∙ row-at p (w .zero) (w .one) (w .two) (w .three) r i h
-      ∙ every .decoded w e .1 (record { fits = f; same = refl }) in
+      ∙ sym (every .decoded w e .1 (record { fits = f; same = refl })) in
       record {
         leads = goes-on ws i e (at .leads) row;
         runs = rw (at .runs, row) (ap (λ (v : List ℕ). record { state = u .state; answers = v }) (answered-at x y z b i (u .number) (u .value) k));
@@ -126,5 +126,5 @@ module _ (every : EveryRow) (ws : List ℕ) (s : State) (a : List ℕ) where
       row = ap (λ (v : List ℕ). rowAt v (length l)) same ∙ row-at (rowsOf l) w x y z rest (length l) (rows-length l)
 
       go : (r : Row) → rowOf w x y z ≡ r → leading ws n ≡ length l
-      go (Row.WellFormed e) p = absurd (malformed e (every .decoded (words w x y z) e .0 p))
+      go (Row.WellFormed e) p = absurd (malformed e (every .decoded (words w x y z) e .0 (sym p)))
       go (Row.Malformed k) p = stops-there ws (length l) k n (at .leads) (row ∙ p) h

@@ -13,12 +13,13 @@ use Rattle.classifier.specs.Transfers.{typeOf}
 use Rattle.classifier.specs.declared.Transfer.{Transfer}
 use Rattle.classifier.specs.declared.Transfer.the-variants.{None, Branch, IndirectCall, DirectCall, IndirectJump, DirectJump, CoroutineSwap, FunctionReturn, OtherIndirectJump, OtherDirectJump}
 use Rattle.machine.specs.Controls.{placeOf, controlWord, isSet}
-use Rattle.machine.specs.Modes.{controlOf, onOf, governingOf}
+use Rattle.machine.specs.Modes.{isVirtual, controlOf, onOf, governingOf}
 use Rattle.machine.specs.Depths.{depthOf, physicalOf}
 use Rattle.machine.specs.declared.ControlBit.{ControlBit}
 use Rattle.machine.specs.declared.ControlBit.the-variants as Bit
 use Rattle.machine.specs.declared.ControlRegister.{ControlRegister}
 use Rattle.machine.specs.declared.ControlRegister.the-variants.{Mctrctl, Vsctrctl}
+use Rattle.machine.specs.declared.Event.{Event}
 use Rattle.machine.specs.declared.Event.the-variants.{Trap}
 use Rattle.machine.specs.declared.Mode.{Mode}
 use Rattle.machine.specs.declared.Mode.the-variants.{U, S, M, VU, VS}
@@ -30,7 +31,7 @@ use Rattle.qualifying.specs.Outcomes.{rasemuOf}
 use Rattle.transfers.specs.Records.{sidePc}
 use Rattle.demands.specs.States.{depth, place, held, bit, IsSet, Traps, Returns}
 use Rattle.demands.specs.Registers.{physical}
-use Rattle.demands.specs.Transfers.{switch, control, ofSource, RASEMU, trapType, Allows, External, Freezes, sideOf}
+use Rattle.demands.specs.Transfers.{switch, control, modeAfter, modeV, otherFields, RASEMU, trapType, Allows, External, Freezes, sideOf}
 use Rattle.demands.proofs.Decides.{Decides, via, Tested, tested}
 
 -- a bit of a control register
@@ -96,13 +97,31 @@ control-is M = refl
 control-is VU = refl
 control-is VS = refl
 
-pub governing-is : (r : Registers) (to : Mode) → governingOf (r .mode) to ≡ ofSource r
-unfolding governingOf
-governing-is r to = control-is (r .mode)
+from-host : (to : Mode) → (if isVirtual to then Vsctrctl else Mctrctl) ≡ (if eqb 0 (modeV to) then Mctrctl else Vsctrctl)
+from-host U = refl
+from-host S = refl
+from-host M = refl
+from-host VU = refl
+from-host VS = refl
 
-pub rasemu : (r : Registers) (to : Mode) → Tested (RASEMU r) (rasemuOf r (r .mode) to)
+either : (b : Bool) → (if b then Vsctrctl else Vsctrctl) ≡ Vsctrctl
+either true = refl
+either false = refl
+
+transition : (m to : Mode) → governingOf m to ≡ (if eqb (modeV m) (modeV to) then control m else Vsctrctl)
+unfolding governingOf controlOf
+transition U to = from-host to
+transition S to = from-host to
+transition M to = from-host to
+transition VU to = either (isVirtual to) ∙ sym (either (eqb 1 (modeV to)))
+transition VS to = either (isVirtual to) ∙ sym (either (eqb 1 (modeV to)))
+
+pub governing-is : (r : Registers) (e : Event) → governingOf (r .mode) (modeAfter r e) ≡ otherFields r e
+governing-is r e = transition (r .mode) (modeAfter r e)
+
+pub rasemu : (r : Registers) (e : Event) → Tested (RASEMU r e) (rasemuOf r (r .mode) (modeAfter r e))
 unfolding rasemuOf
-rasemu r to = rw (governing-is r to) (bit-is r (ofSource r) Bit.RASEMU)
+rasemu r e = rw (governing-is r e) (bit-is r (otherFields r e) Bit.RASEMU)
 
 -- mode changes
 trap-of : {m to : Mode} → Traps m to → possibleTrap m to ≡ true
@@ -212,9 +231,10 @@ pub allows-return : (r : Registers) (c : ControlRegister) → inhibitedOf r c 3 
 unfolding inhibitedOf inhibitBit
 allows-return r c h = Allows.TRETINH (bit-is r c Bit.TRETINH .is-off h)
 
--- in the register of the source
-pub allowed-of : (r : Registers) (to : Mode) {n : ℕ} → Allows r (ofSource r) n → inhibitedOf r (governingOf (r .mode) to) n ≡ false
-allowed-of r to h = rw (governing-is r to) (allowed h)
+-- in the register that governs an event
+pub allowed-of : (r : Registers) (e : Event) {n : ℕ}
+    → Allows r (otherFields r e) n → inhibitedOf r (governingOf (r .mode) (modeAfter r e)) n ≡ false
+allowed-of r e h = rw (governing-is r e) (allowed h)
 
 -- external trap bits
 both : {a b : Bool} → (a && b) ≡ true → (a ≡ true) × (b ≡ true)

@@ -10,7 +10,8 @@ use Rattle.machine.specs.declared.Operation.{Operation}
 use Rattle.machine.specs.declared.Operation.the-variants.{Read, Write, Set, Clear}
 use Rattle.machine.specs.declared.Event.{Event}
 use Rattle.machine.specs.declared.Event.the-variants.{Retired, Trap, TrapReturn, Access, Sctrclr, Host}
-use Rattle.trace.specs.Rows.{rowOf}
+use Rattle.trace.proofs.rows.decode.Reads as Decode
+use Rattle.trace.specs.declared.Row.{Row}
 use Rattle.trace.specs.declared.Row.the-variants.{WellFormed}
 
 -- the four words of a row
@@ -77,7 +78,12 @@ abbrev pub AllFit : List Event → Type 0
 AllFit [] = Unit {0}
 AllFit (e ∷ l) = Fits e × AllFit l
 
+-- a result that meets the `ensures` of `decode`
+abbrev pub Decoded : Words → Row → Type 0
+Decoded w r =
+    Decode.Learnt tt (w .zero, (w .one, (w .two, (w .three, tt)))) r (w .zero, (w .one, (w .two, (w .three, tt))))
+
 -- four words are decoded to an event exactly if they are its words and it fits; and no two events that fit have the same words
 pub record EveryRow : Type 0 where
-  pub decoded : (w : Words) (e : Event) → rowOf (w .zero) (w .one) (w .two) (w .three) ≡ WellFormed e ↔ RowOf w e
+  pub decoded : (w : Words) (e : Event) → Decoded w (WellFormed e) ↔ RowOf w e
   pub only : (w : Words) (e f : Event) → RowOf w e → RowOf w f → e ≡ f

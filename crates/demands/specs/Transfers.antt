@@ -4,6 +4,7 @@ use Prim.Native.Nat.{ℕ, zero, suc, _+_, _-_, _*_, _/_, _%_}
 use mathlib.Core.Path.{_≡_}
 use mathlib.Core.Bool.{Bool, true, false}
 use mathlib.Core.Logic.{_⊎_}
+use lib.Dec.{eqb}
 use Rattle.bits.specs.Choice.{if_then_else_}
 use Rattle.classifier.specs.Promise.{wordType}
 use Rattle.machine.specs.declared.Entry.{Entry}
@@ -47,16 +48,34 @@ On r m = switch r m ≡ 1
 abbrev pub Off : Registers → Mode → Type 0
 Off r m = switch r m ≡ 0
 
--- other fields come from the control register of the source mode
-abbrev pub ofSource : Registers → ControlRegister
-ofSource r = control (r .mode)
+-- the mode after an event that isn't refused: every possible trap or return changes it, recorded or not
+abbrev pub modeAfter : Registers → Event → Mode
+modeAfter r (Trap t) = t .mode
+modeAfter r (TrapReturn t) = t .mode
+modeAfter r (Retired w) = r .mode
+modeAfter r (Access a) = r .mode
+modeAfter r Sctrclr = r .mode
+modeAfter r (Host h) = r .mode
 
--- RASEMU of it
-abbrev pub RASEMU : Registers → ℕ
-RASEMU r = bit r (ofSource r) Bit.RASEMU
+-- V of a mode, the virtualization mode: 1 in VU and VS
+abbrev pub modeV : Mode → ℕ
+modeV U = 0
+modeV S = 0
+modeV M = 0
+modeV VU = 1
+modeV VS = 1
+
+-- the register of all fields but the mode switches, external bits and freeze bits: for any trap or return between V=0 and V=1
+-- vsctrctl, else the control register of the source mode
+abbrev pub otherFields : Registers → Event → ControlRegister
+otherFields r e = if eqb (modeV (r .mode)) (modeV (modeAfter r e)) then control (r .mode) else Vsctrctl
+
+-- RASEMU, as it governs an event
+abbrev pub RASEMU : Registers → Event → ℕ
+RASEMU r e = bit r (otherFields r e) Bit.RASEMU
 
 -- a trap that sets FROZEN: a breakpoint exception (cause 3) with BPFRZ, or a counter overflow interrupt (cause 13) with LCOFIFRZ;
--- read in mctrctl for traps to M or S, in vsctrctl for traps to VS. Switches, RASEMU and FROZEN are not asked
+-- the bit is read in mctrctl for traps to M or S, in vsctrctl for traps to VS. Switches, RASEMU and FROZEN are not asked
 pub data Freezes (r : Registers) : Event → Type 0 where
   BPFRZ : {t : TrapTo}
       → Traps (r .mode) (t .mode) → t .interrupt ≡ false → t .cause ≡ 3 → IsSet r (control (t .mode)) Bit.BPFRZ → Freezes r (Trap t)
@@ -93,7 +112,7 @@ STE r = IsSet r Mctrctl Bit.STE
 abbrev pub MTE : Registers → Type 0
 MTE r = IsSet r Mctrctl Bit.MTE
 
--- those of the target and of every mode between are set
+-- the external bits of the target and of every mode between are set
 pub data External (r : Registers) : Mode → Mode → Type 0 where
   VU-VS : VSTE r → External r VU VS
   VS-VS : VSTE r → External r VS VS
@@ -107,7 +126,7 @@ pub data External (r : Registers) : Mode → Mode → Type 0 where
   VS-M : STE r → MTE r → External r VS M
   VU-M : VSTE r → STE r → MTE r → External r VU M
 
--- a possible trap that is recorded or not by the rules below: it does not freeze, and nothing is frozen
+-- a possible trap that is recorded or not by the rules below: it does not freeze, and FROZEN is 0
 pub record Passes (r : Registers) (t : TrapTo) : Type 0 where
   pub possible : Traps (r .mode) (t .mode)
   pub freezes-not : Freezes r (Trap t) → ⊥
@@ -117,38 +136,41 @@ pub record Passes (r : Registers) (t : TrapTo) : Type 0 where
 abbrev typeOf : RetiredWord → ℕ
 typeOf w = wordType (w .word) (w .taken)
 
--- when a transfer is recorded
+-- when a transfer is recorded: never while FROZEN is 1
 pub data Qualifies (r : Registers) : Event → Type 0 where
   -- RASEMU 0: a retired transfer if its mode is on and its type isn't inhibited
   retired : {w : RetiredWord}
-      → r .buffer .frozen ≡ false → RASEMU r ≡ 0 → On r (r .mode) → Allows r (ofSource r) (typeOf w) → Qualifies r (Retired w)
+      → r .buffer .frozen ≡ false → RASEMU r (Retired w) ≡ 0 → On r (r .mode) → Allows r (otherFields r (Retired w)) (typeOf w)
+      → Qualifies r (Retired w)
   -- RASEMU 0: a trap from a mode that is on into one that is on, unless EXCINH or INTRINH inhibits it
   on-to-on : {t : TrapTo}
-      → Passes r t → RASEMU r ≡ 0 → On r (r .mode) → On r (t .mode)
-      → Allows r (ofSource r) (trapType (t .interrupt)) → Qualifies r (Trap t)
+      → Passes r t → RASEMU r (Trap t) ≡ 0 → On r (r .mode) → On r (t .mode)
+      → Allows r (otherFields r (Trap t)) (trapType (t .interrupt)) → Qualifies r (Trap t)
   -- from off to on the same
   off-to-on : {t : TrapTo}
-      → Passes r t → RASEMU r ≡ 0 → Off r (r .mode) → On r (t .mode)
-      → Allows r (ofSource r) (trapType (t .interrupt)) → Qualifies r (Trap t)
+      → Passes r t → RASEMU r (Trap t) ≡ 0 → Off r (r .mode) → On r (t .mode)
+      → Allows r (otherFields r (Trap t)) (trapType (t .interrupt)) → Qualifies r (Trap t)
   -- from on to off it is external: recorded if the external bits are set, inhibits not asked
   on-to-off : {t : TrapTo}
-      → Passes r t → RASEMU r ≡ 0 → On r (r .mode) → Off r (t .mode) → External r (r .mode) (t .mode) → Qualifies r (Trap t)
+      → Passes r t → RASEMU r (Trap t) ≡ 0 → On r (r .mode) → Off r (t .mode) → External r (r .mode) (t .mode)
+      → Qualifies r (Trap t)
   -- RASEMU 0: a return if its source is on and TRETINH is 0
   return : {t : ReturnTo}
-      → Returns (r .mode) (t .mode) → r .buffer .frozen ≡ false → RASEMU r ≡ 0 → On r (r .mode) → Allows r (ofSource r) 3
-      → Qualifies r (TrapReturn t)
+      → Returns (r .mode) (t .mode) → r .buffer .frozen ≡ false → RASEMU r (TrapReturn t) ≡ 0 → On r (r .mode)
+      → Allows r (otherFields r (TrapReturn t)) 3 → Qualifies r (TrapReturn t)
   -- RASEMU 1, in a mode that is on, inhibits not asked: types 8 and 9
   call : {w : RetiredWord}
-      → r .buffer .frozen ≡ false → RASEMU r ≡ 1 → On r (r .mode) → (typeOf w ≡ 8) ⊎ (typeOf w ≡ 9) → Qualifies r (Retired w)
+      → r .buffer .frozen ≡ false → RASEMU r (Retired w) ≡ 1 → On r (r .mode) → (typeOf w ≡ 8) ⊎ (typeOf w ≡ 9)
+      → Qualifies r (Retired w)
 
 -- RASEMU 1, in a mode that is on: type 13 pops, and type 12 swaps in place
 pub data Pops (r : Registers) : Event → Type 0 where
   type-13 : {w : RetiredWord}
-      → r .buffer .frozen ≡ false → RASEMU r ≡ 1 → On r (r .mode) → typeOf w ≡ 13 → Pops r (Retired w)
+      → r .buffer .frozen ≡ false → RASEMU r (Retired w) ≡ 1 → On r (r .mode) → typeOf w ≡ 13 → Pops r (Retired w)
 
 pub data Swaps (r : Registers) : Event → Type 0 where
   type-12 : {w : RetiredWord}
-      → r .buffer .frozen ≡ false → RASEMU r ≡ 1 → On r (r .mode) → typeOf w ≡ 12 → Swaps r (Retired w)
+      → r .buffer .frozen ≡ false → RASEMU r (Retired w) ≡ 1 → On r (r .mode) → typeOf w ≡ 12 → Swaps r (Retired w)
 
 -- the address of a side: PC 0 where the switch of its mode is 0
 abbrev pub sideOf : ℕ → ℕ → ℕ
@@ -159,7 +181,7 @@ sideOf (suc on) pc = pc
 abbrev pub entryOf : ℕ → ℕ → ℕ → Entry
 entryOf pc target type = record { ctrsource = pc / 2 * 2 + 1; ctrtarget = target / 2 * 2; ctrdata = type }
 
--- what an event records, or puts in place of logical entry 0, if it does; other events never do
+-- what an event records, or puts in place of logical entry 0, if it does; accesses, SCTRCLR and the host's event never do
 abbrev pub recordOf : Registers → Event → Entry
 recordOf r (Retired w) = entryOf (w .pc) (w .target) (typeOf w)
 recordOf r (Trap t) =
@@ -169,19 +191,11 @@ recordOf r (Access a) = entryOf 0 0 0
 recordOf r Sctrclr = entryOf 0 0 0
 recordOf r (Host h) = entryOf 0 0 0
 
--- every possible trap or return changes the mode, recorded or not
-abbrev pub modeAfter : Registers → Event → Mode
-modeAfter r (Trap t) = t .mode
-modeAfter r (TrapReturn t) = t .mode
-modeAfter r (Retired w) = r .mode
-modeAfter r (Access a) = r .mode
-modeAfter r Sctrclr = r .mode
-modeAfter r (Host h) = r .mode
-
+-- the mode alone
 abbrev pub withMove : State → Event → State
 withMove s e = let r = s .registers in registersTo (modeTo (modeAfter r e) r) s
 
--- FROZEN is set
+-- FROZEN is set, and the mode changes
 abbrev pub withFreeze : State → Event → State
 withFreeze s e = let r = s .registers in registersTo (modeTo (modeAfter r e) (frozenTo true r)) s
 
@@ -192,7 +206,7 @@ oneUp r = (r .buffer .wrptr + 1) % depth (r .buffer .code)
 abbrev pub oneDown : Registers → ℕ
 oneDown r = (r .buffer .wrptr + depth (r .buffer .code) - 1) % depth (r .buffer .code)
 
--- a record goes to physical entry WRPTR, and WRPTR goes up by one
+-- a record goes to physical entry WRPTR, WRPTR goes up by one, and the mode changes
 abbrev pub withRecord : State → Event → State
 withRecord s e =
     let r = s .registers in

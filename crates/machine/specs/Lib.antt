@@ -6,3 +6,4 @@ pub mod Good
 pub mod Entries
 pub mod Answers
 pub mod Places
+pub mod Edges

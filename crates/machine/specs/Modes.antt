@@ -63,6 +63,7 @@ switchOf VS = Bit.S
 unfoldable pub onOf : Registers → Mode → Bool
 onOf r m = isSet r (controlOf m) (switchOf m)
 
--- the control register whose other fields govern a transition from the first mode to the second: that of the first
+-- the control register whose other fields govern a transition: vsctrctl into a guest, else that of the source mode, so vsctrctl
+-- for any transition between V=0 and V=1 (Edges)
 unfoldable pub governingOf : Mode → Mode → ControlRegister
-governingOf source target = controlOf source
+governingOf source target = if isVirtual target then Vsctrctl else controlOf source

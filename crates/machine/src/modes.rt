@@ -98,9 +98,13 @@ pub fn is_on(r: Registers, m: Mode) -> bool
     is_set(r, control(m), switch_bit(m))
 }
 
-// The control register that governs a transition.
+// The control register that governs a transition: vsctrctl between V=0 and V=1.
 pub fn governing(source: Mode, target: Mode) -> ControlRegister
     ensures { λ c. ⌜ c ≡ governingOf source target ⌝ }
 {
-    control(source)
+    if is_virtual(target) {
+        ControlRegister::Vsctrctl
+    } else {
+        control(source)
+    }
 }

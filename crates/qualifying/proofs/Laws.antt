@@ -1,4 +1,4 @@
--- What `TrapOutcomes` states, and where the bit of a type lies. Assumes nothing.
+-- What `TrapOutcomes` and `OfMctrctl` state, and where the bit of a type lies. Assumes nothing.
 use mathlib.Core.Path.{_≡_, refl, sym, _∙_}
 use mathlib.Core.Bool.{Bool, true, false, false≢true, not, _&&_, _||_}
 use Prim.Native.Nat.{ℕ, _+_, _<_}
@@ -8,11 +8,15 @@ use borrow.Author.Tests.{eqb-true, ltb-true, ltb-false, lt-leb}
 use Rattle.bits.proofs.Cases.{allBelow, passed}
 use Rattle.bits.specs.Words.{bitAt}
 use Rattle.machine.specs.Controls.{placeOf, controlWord, isSet}
+use Rattle.machine.specs.Modes.{isVirtual, isVU, controlOf}
+use Rattle.machine.specs.declared.Mode.{Mode}
+use Rattle.machine.specs.declared.Mode.the-variants.{U, S, M, VU, VS}
 use Rattle.machine.specs.declared.ControlRegister.{ControlRegister}
 use Rattle.machine.specs.declared.Registers.{Registers}
-use Rattle.qualifying.specs.Filters.{isType, inhibitBit}
+use Rattle.machine.specs.declared.TrapTo.{TrapTo}
+use Rattle.qualifying.specs.Filters.{freezesOf, externalToS, externalToM, externalOf, isType, inhibitBit}
 use Rattle.qualifying.specs.Outcomes.{trapBy}
-use Rattle.qualifying.specs.Laws.{TrapOutcomes}
+use Rattle.qualifying.specs.Laws.{TrapOutcomes, withVsctrctl, OfMctrctl}
 
 pub trap-outcomes : TrapOutcomes
 unfolding trapBy
@@ -20,6 +24,40 @@ trap-outcomes =
     record {
       freezes = (λ frozen rasemu source target inhibited external. refl);
       external = (λ freezes frozen rasemu source external inhibited inhibited′. refl);
+    }
+
+freezes-to : (r : Registers) (w : ℕ) (m : Mode) (interrupt : Bool) (cause epc handler : ℕ) → isVirtual m ≡ false
+    → let t : TrapTo = record { mode = m; interrupt = interrupt; cause = cause; epc = epc; handler = handler } in
+    freezesOf r t ≡ freezesOf (withVsctrctl r w) t
+unfolding freezesOf controlOf isSet
+freezes-to r w U interrupt cause epc handler h = refl
+freezes-to r w S interrupt cause epc handler h = refl
+freezes-to r w M interrupt cause epc handler h = refl
+freezes-to r w VU interrupt cause epc handler h = absurd (false≢true (sym h))
+freezes-to r w VS interrupt cause epc handler h = absurd (false≢true (sym h))
+
+external : (r : Registers) (w : ℕ) (source target : Mode)
+    → isVU source ≡ false → isVirtual target ≡ false → externalOf r source target ≡ externalOf (withVsctrctl r w) source target
+unfolding externalOf externalToS externalToM isSet
+external r w source U h e = refl
+external r w U S h e = refl
+external r w S S h e = refl
+external r w M S h e = refl
+external r w VU S h e = absurd (false≢true (sym h))
+external r w VS S h e = refl
+external r w U M h e = refl
+external r w S M h e = refl
+external r w M M h e = refl
+external r w VU M h e = absurd (false≢true (sym h))
+external r w VS M h e = refl
+external r w source VU h e = refl
+external r w source VS h e = absurd (false≢true (sym e))
+
+pub of-mctrctl : OfMctrctl
+of-mctrctl =
+    record {
+      freezes = (λ r w t h. freezes-to r w (t .mode) (t .interrupt) (t .cause) (t .epc) (t .handler) h);
+      external = external;
     }
 
 -- the bit of a type lies 32 above its number: computed for all types, which are below 16

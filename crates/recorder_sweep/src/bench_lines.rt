@@ -67,15 +67,16 @@ fn host(s: State, mstateen0: bool, hstateen0: bool) -> State {
     )
 }
 
+fn return_to(mode: Mode) -> Event {
+    Event::TrapReturn(ReturnTo {
+        mode,
+        pc: 0x4000,
+        target: 0x5000,
+    })
+}
+
 fn sret(s: State, mode: Mode) -> State {
-    after(
-        s,
-        Event::TrapReturn(ReturnTo {
-            mode,
-            pc: 0x4000,
-            target: 0x5000,
-        }),
-    )
+    after(s, return_to(mode))
 }
 
 fn trap_to(mode: Mode) -> Event {
@@ -261,6 +262,22 @@ fn guest_traps() {
     line(b"ctrtarget of that trap", recorded, read(SIREG2));
 }
 
+// A return into a guest goes by vsctrctl.
+fn guest_entries() {
+    let inhibited = write(write(reset(), VSCTRCTL, 2), MCTRCTL, 0x8_0000_0002);
+    line(
+        b"S to VS with TRETINH in mctrctl alone",
+        sret(inhibited, Mode::S),
+        return_to(Mode::VS),
+    );
+    let emulated = write(write(reset(), VSCTRCTL, 0x82), MCTRCTL, 2);
+    line(
+        b"S to VS with RASEMU in vsctrctl alone",
+        sret(emulated, Mode::S),
+        return_to(Mode::VS),
+    );
+}
+
 fn closed_windows() {
     let in_s = sret(write(reset(), SISELECT, 0x200), Mode::S);
     line(
@@ -293,5 +310,6 @@ pub(crate) fn report() {
     trap_from_off();
     emulated_return();
     guest_traps();
+    guest_entries();
     closed_windows();
 }

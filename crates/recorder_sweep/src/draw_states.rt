@@ -1,4 +1,5 @@
 // Random start states. What draws is given the last word drawn.
+use crate::edges::RASEMU_AND_TRETINH;
 use machine::Buffer;
 use machine::ControlWords;
 use machine::Enables;
@@ -109,21 +110,34 @@ pub(crate) fn draw_registers(random: u64) -> Start {
     }
 }
 
-// The first lists set each single bit of the two control words in turn, stray or not.
-fn with_bit(c: ControlWords, list: u64) -> ControlWords {
+// RASEMU and TRETINH different in the two control words, each way in turn.
+fn with_difference(c: ControlWords, list: u64) -> ControlWords {
+    let both = RASEMU_AND_TRETINH;
+    let chosen = (list % 2) << 7 | (list / 2 % 2) << 35;
+    ControlWords {
+        mctrctl: c.mctrctl & !both | chosen,
+        vsctrctl: c.vsctrctl & !both | (both ^ chosen),
+    }
+}
+
+// The first lists set each single bit of the two control words in turn, stray or not; the next have
+// RASEMU and TRETINH different in the two.
+fn with_bits(c: ControlWords, list: u64) -> ControlWords {
     let mut q = c;
     if list < 64 {
         q.mctrctl = c.mctrctl | (1 << list);
     } else if list < 128 {
         q.vsctrctl = c.vsctrctl | (1 << (list - 64));
+    } else if list < 384 {
+        q = with_difference(c, list);
     }
     q
 }
 
 // The registers that a list of the random run starts from.
-pub(crate) fn with_list_bit(r: Registers, list: u64) -> Registers {
+pub(crate) fn with_list_bits(r: Registers, list: u64) -> Registers {
     let c = r.controls;
-    with_controls(r, with_bit(c, list))
+    with_controls(r, with_bits(c, list))
 }
 
 // Fills the entries, undefined bits too, and answers the last word drawn.

@@ -3,6 +3,7 @@
 mod bench_lines;
 mod draw_events;
 mod draw_states;
+mod edges;
 mod events;
 mod pairs;
 mod random_run;

@@ -2,10 +2,14 @@
 use crate::draw_events::draw_event;
 use crate::draw_states::draw_entries;
 use crate::draw_states::draw_registers;
-use crate::draw_states::with_list_bit;
+use crate::draw_states::with_list_bits;
+use crate::edges::CELLS;
+use crate::edges::cell;
+use crate::edges::put_edges;
 use crate::events::is_transfer;
 use crate::states::digest_state;
 use libc::STDOUT_FILENO;
+use machine::Mode;
 use machine::Registers;
 use machine::answers::number_index;
 use machine::answers::value_index;
@@ -28,6 +32,7 @@ struct Tally {
     frozen: u64,
     numbers: [u64; 6],
     values: [u64; 5],
+    edges: [u64; CELLS],
     answers: u64,
     states: u64,
 }
@@ -60,6 +65,16 @@ fn tallied(t: Tally, transfer: bool, number: u64, value: u64) -> Tally {
     next
 }
 
+// The edge, if it is one, from the registers before a step to the mode after it.
+fn with_edge(t: Tally, before: Registers, after: Mode) -> Tally {
+    let mut next = t;
+    let k = cell(before, after) as usize;
+    if k < CELLS {
+        next.edges[k] = wrapping_add_u64(next.edges[k], 1);
+    }
+    next
+}
+
 fn started(t: Tally, random: u64, good: bool) -> Tally {
     let mut next = t;
     next.random = random;
@@ -81,6 +96,8 @@ fn run_event(
     let a = step_in_place(ctrsource, ctrtarget, ctrdata, r, e);
     let registers = a.registers;
     let mut tally = tallied(l.tally, is_transfer(e), a.number, a.value);
+    let after = registers.mode;
+    tally = with_edge(tally, r, after);
     tally.random = drawn.random;
     tally.frozen = wrapping_add_u64(tally.frozen, flag(r.buffer.frozen));
     tally.states = digest_state(tally.states, registers, ctrsource, ctrtarget, ctrdata);
@@ -94,7 +111,7 @@ fn run_list(t: Tally, list: u64) -> Tally {
     let start = draw_registers(t.random);
     let filled = draw_entries(&mut ctrsource, &mut ctrtarget, &mut ctrdata, start.random);
     let drawn = start.registers;
-    let registers = with_list_bit(drawn, list);
+    let registers = with_list_bits(drawn, list);
     let good = is_good(registers);
     let events = events_from(good);
     let mut l = List {
@@ -115,6 +132,7 @@ fn run_lists() -> Tally {
         frozen: 0,
         numbers: [0; 6],
         values: [0; 5],
+        edges: [0; CELLS],
         answers: 0,
         states: 0,
     };
@@ -132,7 +150,7 @@ fn put_answers(out: &mut [u8], at: usize, numbers: [u64; 6], values: [u64; 5]) -
 
 pub(crate) fn report() {
     let t = run_lists();
-    let mut out = [0u8; 1024];
+    let mut out = [0u8; 2048];
     let mut at = text::put(&mut out, 0, b"random run\n");
     at = put_count(&mut out, at, b"  lists ", LISTS);
     at = put_count(&mut out, at, b"  bad starts ", t.bad_starts);
@@ -140,7 +158,9 @@ pub(crate) fn report() {
     at = put_count(&mut out, at, b"  frozen ", t.frozen);
     let numbers = t.numbers;
     let values = t.values;
+    let edges = t.edges;
     at = put_answers(&mut out, at, numbers, values);
+    at = put_edges(&mut out, at, edges);
     at = put_word(&mut out, at, b"  answers 0x", t.answers);
     at = put_word(&mut out, at, b"  states 0x", t.states);
     io::write_all(STDOUT_FILENO, text::before(&out, at));

@@ -44,25 +44,25 @@ trapRow w cause epc handler = if isTrapRow w then WellFormed (Trap (trapIn w cau
 
 -- kind 2, a trap return: target mode in bits 10..8; 0, pc, target
 unfoldable pub isReturnRow : ℕ → ℕ → Bool
-isReturnRow w zero = hasMode w (2 ^ 11) && eqb zero 0
+isReturnRow w blank = hasMode w (2 ^ 11) && eqb blank 0
 
 abbrev pub returnIn : ℕ → ℕ → ℕ → ReturnTo
 returnIn w pc target = record { mode = modeOf (fieldAt w 8 3); pc = pc; target = target }
 
 unfoldable pub returnRow : ℕ → ℕ → ℕ → ℕ → Row
-returnRow w zero pc target =
-    if isReturnRow w zero then WellFormed (TrapReturn (returnIn w pc target)) else Malformed (if hasMode w (2 ^ 11) then 1 else 0)
+returnRow w blank pc target =
+    if isReturnRow w blank then WellFormed (TrapReturn (returnIn w pc target)) else Malformed (if hasMode w (2 ^ 11) then 1 else 0)
 
 -- kind 3, a register access: operation in bits 9..8; CSR number below 4096, operand, 0
 unfoldable pub isAccessRow : ℕ → ℕ → ℕ → Bool
-isAccessRow w number zero = ltb w (2 ^ 10) && (ltb number 4096 && eqb zero 0)
+isAccessRow w number blank = ltb w (2 ^ 10) && (ltb number 4096 && eqb blank 0)
 
 abbrev pub accessIn : ℕ → ℕ → ℕ → CsrAccess
 accessIn w number operand = record { operation = operationOf (fieldAt w 8 2); number = number; operand = operand }
 
 unfoldable pub accessRow : ℕ → ℕ → ℕ → ℕ → Row
-accessRow w number operand zero =
-    if isAccessRow w number zero then WellFormed (Access (accessIn w number operand))
+accessRow w number operand blank =
+    if isAccessRow w number blank then WellFormed (Access (accessIn w number operand))
     else Malformed (if ltb w (2 ^ 10) then (if ltb number 4096 then 3 else 1) else 0)
 
 -- words 1 to 3 that are all zero, and the first that is not

@@ -3,6 +3,7 @@
 
 mod bench_lines;
 mod draw;
+mod edges;
 mod pairs;
 mod random_run;
 mod random_trace;

@@ -57,13 +57,28 @@ pub(super) fn is_inhibited(control: u64, number: u8) -> bool {
     is_set != (number == NOT_TAKEN_BRANCH)
 }
 
+pub(super) fn is_emulating(control: u64) -> bool {
+    control & RASEMU != 0
+}
+
 impl Registers {
-    /// The control register of a mode.
-    pub(super) fn control(&self, mode: Mode) -> u64 {
+    /// The control register that has a mode's switch and external bit, and the freeze bits for
+    /// traps to it.
+    fn control(&self, mode: Mode) -> u64 {
         if mode.is_virtual() {
             self.vsctrctl
         } else {
             self.mctrctl
+        }
+    }
+
+    /// The control register whose other fields, RASEMU, the inhibits and NTBREN, govern a transfer:
+    /// between V=0 and V=1 vsctrctl, else that of both modes.
+    pub(super) fn governing_control(&self, source: Mode, target: Mode) -> u64 {
+        if source.is_virtual() != target.is_virtual() {
+            self.vsctrctl
+        } else {
+            self.control(source)
         }
     }
 
@@ -75,11 +90,6 @@ impl Registers {
             M => 2,
         };
         self.control(mode) >> place & 1 == 1
-    }
-
-    /// Whether RASEMU governs the events of this source mode.
-    pub(super) fn is_emulating(&self, mode: Mode) -> bool {
-        self.control(mode) & RASEMU != 0
     }
 
     /// Whether the external bits of the target and of every mode between are set.

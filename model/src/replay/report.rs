@@ -6,7 +6,7 @@ use crate::registers::{Entry, Register, Registers};
 
 /// What the numbers of answers mean. A selection outside the window has the words of an unlisted
 /// CSR number.
-const NUMBERS: [&str; 6] = [
+pub const NUMBERS: [&str; 6] = [
     "answered",
     "illegal instruction",
     "virtual instruction",
@@ -16,7 +16,7 @@ const NUMBERS: [&str; 6] = [
 ];
 
 /// What the values of retired words, traps and trap returns mean.
-const VALUES: [&str; 5] = [
+pub const VALUES: [&str; 5] = [
     "nothing",
     "recorded",
     "return popped",
@@ -24,7 +24,8 @@ const VALUES: [&str; 5] = [
     "frozen by this trap",
 ];
 
-const TYPES: [&str; 16] = [
+/// What the types of transfers are called.
+pub const TYPES: [&str; 16] = [
     "none",
     "exception",
     "interrupt",

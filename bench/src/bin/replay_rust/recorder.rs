@@ -22,6 +22,8 @@ const LCOFIFRZ: u64 = 1 << 12;
 /// The inhibit of a type is this many places above the type's number.
 const INHIBITS: u32 = 32;
 
+const TRETINH: u64 = 1 << (INHIBITS + TRAP_RETURN);
+
 /// The types that RASEMU is about, a bit each.
 const CALL_STACK: u32 = 1 << INDIRECT_CALL | 1 << DIRECT_CALL | 1 << SWAP | 1 << RETURN;
 
@@ -117,9 +119,9 @@ pub struct Recorder {
     pub wrptr: usize,
     /// The depth less one: the greatest index in use, and the mask of indices.
     pub last: usize,
-    /// Whether RASEMU governs the current mode.
+    /// Whether RASEMU governs the words retired in the current mode.
     is_emulating: bool,
-    /// The types of the current mode's transfers that are not passed over, a bit each.
+    /// The types of these words that are not passed over, a bit each.
     wanted: u32,
     pub entries: [Entry; ENTRIES],
 }
@@ -229,7 +231,7 @@ impl Recorder {
     /// The address of a mode that is off is recorded as 0.
     #[inline(always)]
     fn record_trap(&mut self, to: Mode, number: u32, epc: u64, handler: u64) -> Value {
-        let control = self.control(self.mode);
+        let control = self.governing_control(to);
         if self.frozen || control & RASEMU != 0 {
             return Value::Nothing;
         }
@@ -259,7 +261,8 @@ impl Recorder {
         if !to.is_among(TRAP_RETURNS[self.mode as usize]) {
             return None;
         }
-        let value = if self.wanted >> TRAP_RETURN & 1 == 0 {
+        let is_kept_out = self.governing_control(to) & (RASEMU | TRETINH) != 0;
+        let value = if self.frozen || is_kept_out || !self.is_on(self.mode) {
             Value::Nothing
         } else {
             let target = if self.is_on(to) { target } else { 0 };
@@ -278,6 +281,16 @@ impl Recorder {
     /// The control register of a mode.
     fn control(&self, mode: Mode) -> u64 {
         if mode.is_virtual() {
+            self.vsctrctl
+        } else {
+            self.mctrctl
+        }
+    }
+
+    /// The control register whose RASEMU and inhibits govern a trap or a return from the current
+    /// mode: vsctrctl if V=1 on either side.
+    fn governing_control(&self, to: Mode) -> u64 {
+        if self.mode.is_virtual() | to.is_virtual() {
             self.vsctrctl
         } else {
             self.mctrctl

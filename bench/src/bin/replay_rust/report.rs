@@ -2,41 +2,7 @@
 
 use super::recorder::{Recorder, V};
 use super::run::Run;
-
-const NUMBERS: [&str; 5] = [
-    "answered",
-    "illegal instruction",
-    "virtual instruction",
-    "no such register",
-    "mode change not possible",
-];
-
-const VALUES: [&str; 5] = [
-    "nothing",
-    "recorded",
-    "return popped",
-    "swapped in place",
-    "frozen by this trap",
-];
-
-const TYPES: [&str; 16] = [
-    "none",
-    "exception",
-    "interrupt",
-    "trap return",
-    "branch not taken",
-    "branch taken",
-    "reserved",
-    "reserved",
-    "indirect call",
-    "direct call",
-    "indirect jump",
-    "direct jump",
-    "co-routine swap",
-    "function return",
-    "other indirect jump",
-    "other direct jump",
-];
+use model::replay::{NUMBERS, TYPES, VALUES};
 
 impl Run {
     pub fn report(&self) -> String {

@@ -198,7 +198,8 @@ fn add_emulated_return(bench: &mut Bench) {
     bench.line_after("sctrstatus after it under RASEMU", &[read(SCTRSTATUS)]);
 }
 
-/// Where another implementation departs from the ratified text (docs/PEERS.md).
+/// Traps out of a guest, where another implementation departs from the ratified text (docs/PEERS.md); returns into one, which
+/// go by vsctrctl; and what the state enables close.
 fn add_guests(bench: &mut Bench) {
     bench.line(
         "VU to S with EXCINH in mctrctl alone",
@@ -224,6 +225,24 @@ fn add_guests(bench: &mut Bench) {
         &[write(SISELECT, 0x200), read(SIREG2)],
     );
     bench.line(
+        "S to VS with TRETINH in mctrctl alone",
+        &[
+            write(VSCTRCTL, 2),
+            write(MCTRCTL, 2 | 1 << 35),
+            return_to(S),
+            return_to(VS),
+        ],
+    );
+    bench.line(
+        "S to VS with RASEMU in vsctrctl alone",
+        &[
+            write(VSCTRCTL, 2 | 1 << 7),
+            write(MCTRCTL, 2),
+            return_to(S),
+            return_to(VS),
+        ],
+    );
+    bench.line(
         "S reads sireg in the window with mstateen0.CTR 0",
         &[write(SISELECT, 0x200), return_to(S), read(SIREG)],
     );
@@ -244,7 +263,7 @@ mod tests {
     use super::*;
 
     /// Number and value of each line: refusals of VS, what is read back, records and the pop.
-    const PUBLISHED: [(u8, u64); 29] = [
+    const PUBLISHED: [(u8, u64); 31] = [
         (1, 0),
         (2, 0),
         (0, 0xABCD),
@@ -269,6 +288,8 @@ mod tests {
         (0, 0x1234),
         (0, 15),
         (0, 1),
+        (0, 1),
+        (0, 0),
         (0, 1),
         (0, 0),
         (1, 0),

@@ -1,5 +1,6 @@
 //! Long lists of random events, each list from a random state.
 
+use super::edges::{Edges, RASEMU, TRETINH};
 use super::{with_answer, with_state};
 use crate::access::Answer;
 use crate::expected::random::Random;
@@ -14,8 +15,8 @@ const EVENTS: u32 = 400;
 /// How many it has from a bad state, where all events have the same answer.
 const EVENTS_IF_BAD: u32 = 40;
 
-/// How many events met FROZEN, how often each number was answered and each value, and digests of answers and of the states
-/// after them.
+/// How many events met FROZEN, how often each number was answered and each value, the edges that were met, and digests of
+/// answers and of the states after them.
 #[derive(Default)]
 struct Tally {
     bad_starts: u32,
@@ -23,6 +24,7 @@ struct Tally {
     frozen: u32,
     numbers: [u32; 6],
     values: [u32; 5],
+    edges: Edges,
     answers: u64,
     states: u64,
 }
@@ -48,38 +50,67 @@ impl Tally {
         for (value, count) in self.values.iter().enumerate() {
             text += &format!("  value {value} {count}\n");
         }
+        text += &self.edges.lines();
         text += &format!("  answers 0x{:016x}\n", self.answers);
         text + &format!("  states 0x{:016x}\n", self.states)
     }
 }
 
 pub(super) fn random_run() -> String {
+    format!("random run\n  lists {LISTS}\n{}", run().lines())
+}
+
+fn run() -> Tally {
     let mut random = Random::from_seed();
     let mut tally = Tally::default();
     for list in 0..LISTS {
         add_list(&mut tally, &mut random, list);
     }
-    format!("random run\n  lists {LISTS}\n{}", tally.lines())
+    tally
 }
 
 fn add_list(tally: &mut Tally, random: &mut Random, list: u64) {
     let mut machine = random.machine();
-    set_bit(&mut machine.registers, list);
+    set_bits(&mut machine.registers, list);
     let is_bad = machine.registers.is_bad();
     tally.bad_starts += u32::from(is_bad);
     for _ in 0..if is_bad { EVENTS_IF_BAD } else { EVENTS } {
         let event = random.event(machine.registers.mode);
         tally.frozen += u32::from(machine.registers.frozen);
+        let before = machine.registers;
         let answer = machine.step(event);
+        tally.edges.add(&before, machine.registers.mode);
         tally.add(event, answer, &machine);
     }
 }
 
-/// The first lists set each single bit of the two control words in turn, stray or not.
-fn set_bit(registers: &mut Registers, list: u64) {
+/// The first lists set each single bit of the two control words in turn, stray or not; the next have RASEMU and TRETINH
+/// different in the two, each way in turn.
+fn set_bits(registers: &mut Registers, list: u64) {
     match list {
         0..=63 => registers.mctrctl |= 1 << list,
         64..=127 => registers.vsctrctl |= 1 << (list - 64),
+        128..=383 => {
+            let both = RASEMU | TRETINH;
+            let bits = list % 2 * RASEMU | list / 2 % 2 * TRETINH;
+            registers.mctrctl = registers.mctrctl & !both | bits;
+            registers.vsctrctl = registers.vsctrctl & !both | (both ^ bits);
+        }
         _ => {}
+    }
+}
+
+#[cfg(test)]
+mod tests {
+    use super::*;
+
+    #[test]
+    fn nothing_is_counted_0_times() {
+        let tally = run();
+        assert!(tally.bad_starts > 0 && tally.frozen > 0);
+        let mut counts = tally.numbers.iter().chain(&tally.values);
+        assert!(counts.all(|count| *count > 0), "{}", tally.lines());
+        let mut cells = tally.edges.0.iter().flatten();
+        assert!(cells.all(|count| *count > 0), "{}", tally.lines());
     }
 }
