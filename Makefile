@@ -31,10 +31,12 @@ examples: archive ## build and run the C and the Rust program of examples/
 	@echo "C:" && target/examples/classify_c
 	@echo "Rust:" && target/examples/classify_rs
 
-bench: archive program ## time the classifier and replay beside Rust programs
+bench: archive program ## time the classifier, replay and single steps beside Rust programs
+	@$(call quietly,rt check step_bench)
 	@cd bench && $(CARGO) build --release --offline --quiet
 	@cd bench && target/release/bench
 	@cd bench && target/release/replay
+	@cd bench && target/release/steps
 
 every-word: archive ## compare with the model on all 2^32 words (about a minute)
 	@cd bench && $(CARGO) run --release --offline --quiet --bin every_word

@@ -5,6 +5,7 @@ mod access_sweep;
 mod random;
 mod recorder_sweep;
 mod replay_sweep;
+mod step_bench;
 mod trace_sweep;
 mod traces;
 
@@ -15,6 +16,7 @@ use std::path::{Path, PathBuf};
 pub use self::access_sweep::access_sweep;
 pub use self::recorder_sweep::{random_events, recorder_sweep};
 pub use self::replay_sweep::{replay_sweep, replay_sweep_input};
+pub use self::step_bench::{step_bench, step_bench_input};
 pub use self::trace_sweep::trace_sweep;
 use self::traces::{replay_files, setup_files};
 use crate::classifier::{name, transfer_type};
@@ -40,6 +42,8 @@ pub fn files() -> Vec<(&'static str, Vec<u8>)> {
         ),
         ("crates/replay_sweep/stdin", replay_sweep_input()),
         ("crates/replay_sweep/stdout", replay_sweep().into_bytes()),
+        ("crates/step_bench/stdin", step_bench_input()),
+        ("crates/step_bench/stdout", step_bench().into_bytes()),
     ];
     files.extend(setup_files());
     files.extend(replay_files());

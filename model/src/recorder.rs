@@ -12,7 +12,7 @@ use crate::classifier::{transfer_type, DIRECT_CALL, INDIRECT_CALL, NONE, RETURN,
 use crate::registers::{Entry, Mode, Registers};
 
 /// The number of physical entries, in use or not.
-pub const ENTRIES: usize = 128;
+pub const ENTRIES: usize = 256;
 
 /// The number answered if the mode change is not possible.
 const NOT_POSSIBLE: u8 = 4;

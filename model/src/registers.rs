@@ -12,7 +12,10 @@ pub const MCTRCTL_MASK: u64 = 0x0000_FF3E_0000_1B87;
 pub const SCTRCTL_MASK: u64 = 0x0000_FF3E_0000_1983;
 
 /// The number of entries in use, by depth code.
-pub const DEPTHS: [u64; 4] = [16, 32, 64, 128];
+pub const DEPTHS: [u64; 5] = [16, 32, 64, 128, 256];
+
+/// The code of the largest depth; codes above it become this one when they are written.
+const LAST_DEPTH_CODE: u64 = DEPTHS.len() as u64 - 1;
 
 /// The selections that stand for logical entries 0 to 255.
 const WINDOW: RangeInclusive<u64> = 0x200..=0x2FF;
@@ -170,13 +173,13 @@ impl Registers {
 
     /// Whether every event answers 5 here.
     pub fn is_bad(&self) -> bool {
-        self.depth_code > 3
+        self.depth_code > LAST_DEPTH_CODE
             || self.wrptr >= self.depth()
             || self.mctrctl & !MCTRCTL_MASK != 0
             || self.vsctrctl & !SCTRCTL_MASK != 0
     }
 
-    /// How many entries are in use. Panics for a depth code above 3.
+    /// How many entries are in use. Panics if the depth code is bad.
     pub fn depth(&self) -> u64 {
         DEPTHS[self.depth_code as usize]
     }
@@ -264,7 +267,7 @@ impl Registers {
                 self.frozen = value >> STATUS_FROZEN & 1 == 1;
             }
             Sctrdepth => {
-                self.depth_code = (value & 7).min(3);
+                self.depth_code = (value & 7).min(LAST_DEPTH_CODE);
                 self.wrptr %= self.depth();
             }
             Vsctrctl => self.vsctrctl = value & SCTRCTL_MASK,

@@ -191,7 +191,7 @@ hstateen0.CTR 0x0
         let stdout = printed("--state call").stdout;
         let report = report_of(&[TURN_M_ON, CALL]);
         assert!(stdout.starts_with(&format!("{report}0 0x1001 0x2000 0x9\n1 0x0 0x0 0x0\n")));
-        assert!(stdout.ends_with("\n127 0x0 0x0 0x0\n"));
+        assert!(stdout.ends_with("\n255 0x0 0x0 0x0\n"));
     }
 
     #[test]

@@ -95,7 +95,7 @@ mod tests {
     /// As `used`, in each way of being bad.
     fn bad_machines() -> [Machine; 4] {
         let mut machines = [(); 4].map(|()| used());
-        machines[0].registers.depth_code = 4;
+        machines[0].registers.depth_code = 5;
         machines[1].registers.wrptr = 16;
         machines[2].registers.mctrctl |= 1 << 63;
         machines[3].registers.vsctrctl |= 1 << 2;

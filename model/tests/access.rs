@@ -90,9 +90,10 @@ const ENABLES: [(u8, u8); 4] = [(0, 0), (1, 0), (0, 1), (1, 1)];
 
 #[test]
 fn number_5_comes_before_all_steps() {
-    let bad: [fn(&mut Registers); 4] = [
-        |r| r.depth_code = 4,
+    let bad: [fn(&mut Registers); 5] = [
+        |r| r.depth_code = 5,
         |r| r.wrptr = 16,
+        |r| (r.depth_code, r.wrptr) = (4, 256),
         |r| r.mctrctl = 1 << 3,
         |r| r.vsctrctl = 1 << 2,
     ];
@@ -252,7 +253,7 @@ fn hstateen0_shuts_vs() {
     }
 }
 
-/// Step 6: an ireg goes by all 64 bits of its selection.
+/// Step 6: an ireg goes by all 64 bits of its selection, at each depth.
 #[test]
 fn selections_outside_the_window_answer_3() {
     let cases = [
@@ -261,6 +262,7 @@ fn selections_outside_the_window_answer_3() {
         (0x200, 0),
         (0x20F, 0),
         (0x210, 0),
+        (0x280, 0),
         (0x2FF, 0),
         (0x300, 3),
         (0x1200, 3),
@@ -269,19 +271,29 @@ fn selections_outside_the_window_answer_3() {
         (u64::MAX, 3),
     ];
     for (selection, expected) in cases {
-        for csr in [SIREG, SIREG3, SIREG4, SIREG6] {
-            for mode in [S, M] {
-                let registers = registers(mode, (1, 0), (selection, IN));
-                assert_eq!(number(registers, csr), expected, "{selection:#x}");
-            }
-            let registers = registers(VS, (1, 1), (IN, selection));
-            assert_eq!(number(registers, csr), expected, "{selection:#x}");
+        for depth_code in 0..5 {
+            check_window(depth_code, selection, expected);
         }
-        for csr in [VSIREG, VSIREG3, VSIREG4, VSIREG6] {
-            for mode in [S, M] {
-                let registers = registers(mode, (1, 0), (IN, selection));
-                assert_eq!(number(registers, csr), expected, "{selection:#x}");
-            }
+    }
+}
+
+fn check_window(depth_code: u64, selection: u64, expected: u8) {
+    let check = |start: Registers, csr| {
+        let start = Registers {
+            depth_code,
+            ..start
+        };
+        assert_eq!(number(start, csr), expected, "{csr:#x} {start:x?}");
+    };
+    for csr in [SIREG, SIREG3, SIREG4, SIREG6] {
+        for mode in [S, M] {
+            check(registers(mode, (1, 0), (selection, IN)), csr);
+        }
+        check(registers(VS, (1, 1), (IN, selection)), csr);
+    }
+    for csr in [VSIREG, VSIREG3, VSIREG4, VSIREG6] {
+        for mode in [S, M] {
+            check(registers(mode, (1, 0), (IN, selection)), csr);
         }
     }
 }
@@ -341,9 +353,20 @@ fn published_answers() {
             expected
         );
     }
-    for (selection, expected) in [(0x27F, (0, 0x1001)), (0x280, (0, 0)), (0x300, (3, 0))] {
+    let cases = [
+        // depth code, selection, number and value
+        (3, 0x27F, (0, 0x1001)),
+        (3, 0x280, (0, 0)),
+        (3, 0x2FF, (0, 0)),
+        (3, 0x300, (3, 0)),
+        (4, 0x27F, (0, 0x1001)),
+        (4, 0x280, (0, 0x1001)),
+        (4, 0x2FF, (0, 0x1001)),
+        (4, 0x300, (3, 0)),
+    ];
+    for (depth_code, selection, expected) in cases {
         let mut registers = Registers {
-            depth_code: 3,
+            depth_code,
             ..registers(S, (1, 0), (selection, 0))
         };
         let access = Access {
@@ -439,7 +462,7 @@ impl Random {
             mode: self.one_of(&Mode::ALL),
             mctrctl: self.word() & 0x0000_FF3E_0000_1B87 | stray,
             vsctrctl: self.word() & 0x0000_FF3E_0000_1983,
-            depth_code: self.below(5),
+            depth_code: self.below(6),
             wrptr: self.below(24),
             frozen: self.bit(),
             siselect: 0x180 + self.below(0x200),

@@ -233,18 +233,39 @@ fn pairs(table: [(Mode, &'static [Mode]); 5]) -> impl Iterator<Item = (Mode, Mod
 fn reset_is_mode_m_and_all_else_0() {
     let machine = Machine::reset();
     assert_eq!(machine.registers, Registers::RESET);
-    assert_eq!(machine.entries, [entry(0, 0, 0); 128]);
+    assert_eq!(machine.entries, [entry(0, 0, 0); 256]);
 }
 
-/// Published: the record at the last entry in use is logical entry 0, and WRPTR wraps.
+/// The depth codes, and the last entry in use at each.
+const LAST_ENTRIES: [(u64, usize); 5] = [(0, 15), (1, 31), (2, 63), (3, 127), (4, 255)];
+
+/// Published for depth 16: the record at the last entry in use is logical entry 0, and WRPTR wraps.
 #[test]
 fn wrptr_wraps_after_the_last_entry() {
-    let mut start = machine(M, &[M]);
-    start.registers.wrptr = 15;
-    let (value, after) = outcome(&start, retired(DIRECT_CALL, true));
-    assert_eq!((value, after.registers.wrptr), (1, 0));
-    assert_eq!(after.registers.physical_entry(0), 15);
-    assert_eq!(after.entries[15], entry(CTRSOURCE, CTRTARGET, 9));
+    for (depth_code, last) in LAST_ENTRIES {
+        let mut start = machine(M, &[M]);
+        start.registers.depth_code = depth_code;
+        start.registers.wrptr = last as u64;
+        let mut expected = start.clone();
+        expected.entries[last] = entry(CTRSOURCE, CTRTARGET, 9);
+        expected.registers.wrptr = 0;
+        assert_eq!(expected.registers.physical_entry(0), last as u64);
+        let result = outcome(&start, retired(DIRECT_CALL, true));
+        assert_eq!(result, (1, expected));
+    }
+}
+
+/// At the last entry of each smaller depth.
+#[test]
+fn wrptr_does_not_wrap_before_the_last_entry() {
+    for (_, place) in &LAST_ENTRIES[..4] {
+        let mut start = machine(M, &[M]);
+        start.registers.depth_code = 4;
+        start.registers.wrptr = *place as u64;
+        let (value, after) = outcome(&start, retired(DIRECT_CALL, true));
+        assert_eq!((value, after.registers.wrptr), (1, *place as u64 + 1));
+        assert_eq!(after.entries[*place], entry(CTRSOURCE, CTRTARGET, 9));
+    }
 }
 
 /// Published: U on, S and M off.
@@ -270,16 +291,34 @@ fn trap_from_an_off_mode_has_ctrsource_1() {
     assert_eq!((value, after.entries[4]), (1, entry(1, CTRTARGET, 1)));
 }
 
-/// Published: entry 15 loses V and nothing else.
+/// Published for depth 16: entry 15 loses V and nothing else.
 #[test]
 fn return_at_wrptr_0_pops_the_last_entry() {
+    for (depth_code, last) in LAST_ENTRIES {
+        let start = at_wrptr_0_under_rasemu(depth_code);
+        let mut expected = start.clone();
+        expected.entries[last].ctrsource = 0x10_0000 + 16 * last as u64;
+        expected.registers.wrptr = last as u64;
+        assert_eq!(outcome(&start, retired(RETURN, true)), (2, expected));
+    }
+}
+
+#[test]
+fn swap_at_wrptr_0_overwrites_the_last_entry() {
+    for (depth_code, last) in LAST_ENTRIES {
+        let start = at_wrptr_0_under_rasemu(depth_code);
+        let mut expected = start.clone();
+        expected.entries[last] = entry(CTRSOURCE, CTRTARGET, 12);
+        assert_eq!(outcome(&start, retired(SWAP, true)), (3, expected));
+    }
+}
+
+fn at_wrptr_0_under_rasemu(depth_code: u64) -> Machine {
     let mut start = machine(U, &[U]);
     *control(&mut start, U) |= RASEMU;
+    start.registers.depth_code = depth_code;
     start.registers.wrptr = 0;
-    let mut expected = start.clone();
-    expected.entries[15].ctrsource = 0x10_00F0;
-    expected.registers.wrptr = 15;
-    assert_eq!(outcome(&start, retired(RETURN, true)), (2, expected));
+    start
 }
 
 /// A slip: M is bit 2 and not bit 0.
@@ -342,10 +381,19 @@ fn the_last_record_is_read_as_logical_entry_0() {
 }
 
 fn read(machine: &mut Machine, csr: u64) -> u64 {
+    access(machine, Operation::Read, csr, 0)
+}
+
+fn write(machine: &mut Machine, csr: u64, operand: u64) -> u64 {
+    access(machine, Operation::Write, csr, operand)
+}
+
+/// The value of a granted access.
+fn access(machine: &mut Machine, operation: Operation, csr: u64, operand: u64) -> u64 {
     let access = Access {
-        operation: Operation::Read,
+        operation,
         csr,
-        operand: 0,
+        operand,
     };
     let answer = machine.step(Event::Access(access));
     assert_eq!(answer.number, 0);
@@ -890,7 +938,7 @@ fn check_reached(
 /// other; from VS vsiselect counts.
 #[test]
 fn accesses_reach_the_selected_entry() {
-    for depth_code in 0..4 {
+    for depth_code in 0..5 {
         for logical in 0..256 {
             let selection = 0x200 + logical as u64;
             check_reached(depth_code, logical, (M, 0x151), (selection, 0x201));
@@ -900,16 +948,82 @@ fn accesses_reach_the_selected_entry() {
     }
 }
 
+/// More calls than there are entries, each from a pc of its own: the newest 256 are read through
+/// selections 0x200 to 0x2FF, newest first.
+#[test]
+fn at_depth_256_the_newest_256_records_are_read() {
+    let mut machine = Machine::reset();
+    write(&mut machine, 0x34E, 4);
+    write(&mut machine, 0x15F, 7);
+    for call in 0..300 {
+        let event = Event::Retired(Retired {
+            word: DIRECT_CALL,
+            pc: 0x1000 + 4 * call,
+            target: 0x8000 + 4 * call,
+            taken: true,
+        });
+        let (value, after) = outcome(&machine, event);
+        assert_eq!(value, 1);
+        machine = after;
+    }
+    assert_eq!(read(&mut machine, 0x14F), 300 - 256);
+    for logical in 0..256 {
+        write(&mut machine, 0x150, 0x200 + logical);
+        let call = 299 - logical;
+        assert_eq!(read(&mut machine, 0x151), 0x1001 + 4 * call);
+        assert_eq!(read(&mut machine, 0x152), 0x8000 + 4 * call);
+        assert_eq!(read(&mut machine, 0x153), 9);
+    }
+}
+
+/// From depth 256 down to each and up again: entries beyond the smaller depth can't be read or
+/// written meanwhile, and come back.
+#[test]
+fn entries_stay_while_the_depth_changes() {
+    for (depth_code, last) in LAST_ENTRIES {
+        let depth = last as u64 + 1;
+        let mut machine = machine(M, &[]);
+        machine.registers.depth_code = 4;
+        machine.registers.wrptr = 0xC3;
+        let entries = machine.entries;
+
+        assert_eq!(write(&mut machine, 0x15F, depth_code), 4);
+        assert_eq!(machine.registers.wrptr, 0xC3 % depth);
+        assert_eq!(machine.entries, entries);
+        for logical in depth..256 {
+            write(&mut machine, 0x150, 0x200 + logical);
+            assert_eq!(write(&mut machine, 0x151, u64::MAX), 0);
+            assert_eq!(machine.entries, entries);
+        }
+
+        assert_eq!(write(&mut machine, 0x15F, 4), depth_code);
+        assert_eq!(machine.registers.wrptr, 0xC3 % depth);
+        assert_eq!(machine.entries, entries);
+        for logical in 0..256 {
+            write(&mut machine, 0x150, 0x200 + logical);
+            let place = (0xC3 % depth + 255 - logical) % 256;
+            assert_eq!(read(&mut machine, 0x151), 0x10_0001 + 16 * place);
+        }
+    }
+}
+
+/// At each depth also those beyond it.
 #[test]
 fn sctrclr_zeroes_all_entries_and_nothing_else() {
-    let mut start = machine(M, &Mode::ALL);
-    start.registers.frozen = true;
-    let (value, after) = outcome(&start, Event::Sctrclr);
-    assert_eq!((value, after.registers), (0, start.registers));
-    assert_eq!(after.entries, [entry(0, 0, 0); 128]);
+    for (depth_code, last) in LAST_ENTRIES {
+        for wrptr in [0, 4, last as u64] {
+            let mut start = machine(M, &Mode::ALL);
+            start.registers.depth_code = depth_code;
+            start.registers.wrptr = wrptr;
+            start.registers.frozen = true;
+            let (value, after) = outcome(&start, Event::Sctrclr);
+            assert_eq!((value, after.registers), (0, start.registers));
+            assert_eq!(after.entries, [entry(0, 0, 0); 256]);
 
-    let mut refused = machine(S, &Mode::ALL);
-    let before = refused.clone();
-    assert_eq!(refused.step(Event::Sctrclr).number, 1);
-    assert_eq!(refused, before);
+            let mut refused = in_mode(&start, S);
+            let before = refused.clone();
+            assert_eq!(refused.step(Event::Sctrclr).number, 1);
+            assert_eq!(refused, before);
+        }
+    }
 }

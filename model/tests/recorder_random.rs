@@ -48,7 +48,7 @@ impl Random {
     fn registers(&mut self) -> Registers {
         let stray = self.word() & self.one_of(&[0, 0, 0, 0, 0, 0, 0, u64::MAX]);
         let inhibits = self.one_of(&[0, ALL_INHIBITS]);
-        let depth_code = self.one_of(&[0, 1, 2, 3, 0, 1, 2, 3, 0, 1, 2, 3, 4]);
+        let depth_code = self.one_of(&[0, 1, 2, 3, 4, 0, 1, 2, 3, 4, 5]);
         let bound = (16 << depth_code) + self.one_of(&[0, 0, 8]);
         Registers {
             mode: self.one_of(&Mode::ALL),

@@ -25,6 +25,9 @@ const VSIREG: [u64; 6] = [
     csr::VSIREG6,
 ];
 
+/// The depth codes and what they stand for, said here once more.
+const DEPTHS: [(u64, u64); 5] = [(0, 16), (1, 32), (2, 64), (3, 128), (4, 256)];
+
 /// Both state enables are set, and all else is as after a reset.
 fn registers(mode: Mode) -> Registers {
     Registers {
@@ -119,6 +122,11 @@ fn sctrstatus_holds_wrptr_and_frozen() {
         (3, 0x0000_0180, 0),
         (3, 0xFFFF_FFFF_7FFF_FF05, 0x0000_0005),
         (3, u64::MAX, 0x8000_007F),
+        (4, 0x0000_00FF, 0x0000_00FF),
+        (4, 0x8000_0080, 0x8000_0080),
+        (4, 0x0000_0100, 0),
+        (4, 0xFFFF_FFFF_7FFF_FFFF, 0x0000_00FF),
+        (4, u64::MAX, 0x8000_00FF),
     ];
     for (depth_code, written, expected) in cases {
         let mut registers = Registers {
@@ -141,9 +149,9 @@ fn sctrstatus_from_vs_is_the_same() {
 }
 
 #[test]
-fn sctrdepth_takes_three_bits_and_at_most_3() {
-    let cases = [(0, 0), (1, 1), (2, 2), (3, 3), (4, 3), (5, 3), (6, 3)];
-    let more = [(7, 3), (8, 0), (9, 1), (u64::MAX, 3), (1 << 32, 0)];
+fn sctrdepth_takes_three_bits_and_at_most_4() {
+    let cases = [(0, 0), (1, 1), (2, 2), (3, 3), (4, 4), (5, 4), (6, 4)];
+    let more = [(7, 4), (8, 0), (9, 1), (12, 4), (u64::MAX, 4), (1 << 32, 0)];
     for (written, expected) in cases.into_iter().chain(more) {
         let mut registers = registers(Mode::S);
         assert_eq!(write(&mut registers, SCTRDEPTH, written), 0);
@@ -152,17 +160,43 @@ fn sctrdepth_takes_three_bits_and_at_most_3() {
 }
 
 #[test]
+fn codes_0_to_4_are_the_depths_from_16_to_256() {
+    for (depth_code, depth) in DEPTHS {
+        let mut registers = registers(Mode::M);
+        write(&mut registers, SCTRDEPTH, depth_code);
+        assert_eq!(registers.depth(), depth);
+    }
+}
+
+#[test]
 fn sctrdepth_takes_wrptr_along() {
-    for (depth_code, wrptr) in [(0, 0x6D % 16), (1, 0x6D % 32), (2, 0x6D % 64), (3, 0x6D)] {
+    let cases = [(0, 0x0D), (1, 0x1D), (2, 0x3D), (3, 0x7D), (4, 0xFD)];
+    for (written, wrptr) in cases.into_iter().chain([(7, 0xFD), (8, 0x0D)]) {
         let mut registers = Registers {
-            depth_code: 3,
-            wrptr: 0x6D,
+            depth_code: 4,
+            wrptr: 0xFD,
             frozen: true,
             ..registers(Mode::M)
         };
-        assert_eq!(write(&mut registers, SCTRDEPTH, depth_code), 3);
+        assert_eq!(write(&mut registers, SCTRDEPTH, written), 4);
         assert_eq!(registers.wrptr, wrptr);
         assert!(registers.frozen);
+    }
+}
+
+#[test]
+fn wrptr_stays_as_the_depth_grows() {
+    for (depth_code, depth) in DEPTHS {
+        for written in depth_code..8 {
+            let mut registers = Registers {
+                depth_code,
+                wrptr: depth - 1,
+                ..registers(Mode::M)
+            };
+            assert_eq!(write(&mut registers, SCTRDEPTH, written), depth_code);
+            assert_eq!(registers.depth_code, written.min(4));
+            assert_eq!(registers.wrptr, depth - 1);
+        }
     }
 }
 
@@ -183,7 +217,9 @@ fn set_and_clear_work_on_the_old_reading() {
         (VSCTRCTL, 0x101, 0x303, 0x103, 0x000),
         (SCTRSTATUS, 0x8000_0015, 0xC1, 0x8000_0015, 0x8000_0014),
         (SCTRSTATUS, 0x8000_0015, 1 << 31, 0x8000_0015, 0x0000_0015),
-        (SCTRDEPTH, 2, 5, 3, 2),
+        (SCTRDEPTH, 2, 1, 3, 2),
+        (SCTRDEPTH, 2, 4, 4, 2),
+        (SCTRDEPTH, 2, 5, 4, 2),
         (SCTRDEPTH, 2, 2, 2, 0),
     ];
     for (csr, old, operand, set, cleared) in cases {
@@ -192,6 +228,37 @@ fn set_and_clear_work_on_the_old_reading() {
             let entry = &mut Entry::default();
             assert_eq!(value(&mut registers, entry, operation, csr, operand), old);
             assert_eq!(read(&mut registers, csr), new, "{operation:?} {csr:#x}");
+        }
+    }
+}
+
+/// Code 4 with more bits is still 4, and without its own bit it is 0.
+#[test]
+fn set_and_clear_at_the_largest_depth() {
+    let cases = [
+        // depth code, operand, reading after set, reading after clear
+        (3, 4, 4, 3),
+        (0, 5, 4, 0),
+        (1, 12, 4, 1),
+        (4, 0, 4, 4),
+        (4, 3, 4, 4),
+        (4, 4, 4, 0),
+        (4, 7, 4, 0),
+        (4, 8, 4, 4),
+        (4, u64::MAX, 4, 0),
+    ];
+    for (depth_code, operand, set, cleared) in cases {
+        for (operation, new) in [(Operation::Set, set), (Operation::Clear, cleared)] {
+            let wrptr = (16 << depth_code) - 1;
+            let mut registers = Registers {
+                depth_code,
+                wrptr,
+                ..registers(Mode::S)
+            };
+            let entry = &mut Entry::default();
+            let old = value(&mut registers, entry, operation, SCTRDEPTH, operand);
+            assert_eq!((old, registers.depth_code), (depth_code, new));
+            assert_eq!(registers.wrptr, wrptr % (16 << new));
         }
     }
 }
@@ -304,7 +371,7 @@ fn set_and_clear_drop_undefined_bits_of_an_entry() {
 }
 
 /// The last selection that is an entry, and the next one, which reads 0 and is not changed by the
-/// writes that are granted.
+/// writes that are granted. At depth 256 all selections of the window are entries.
 #[test]
 fn entries_from_depth_on_read_0() {
     for (depth_code, last) in [(0, 0x20F), (1, 0x21F), (2, 0x23F), (3, 0x27F)] {
@@ -312,6 +379,9 @@ fn entries_from_depth_on_read_0() {
             check_selection(depth_code, selection, is_entry);
         }
         check_selection(depth_code, 0x2FF, false);
+    }
+    for selection in [0x200, 0x27F, 0x280, 0x2FF] {
+        check_selection(4, selection, true);
     }
 }
 
@@ -364,7 +434,11 @@ fn bad_states() {
         registers.is_bad()
     };
     assert!(!bad(|_| {}));
-    assert!(bad(|r| r.depth_code = 4));
+    assert!(!bad(|r| r.depth_code = 4));
+    assert!(bad(|r| r.depth_code = 5));
+    assert!(bad(|r| r.depth_code = 7));
+    assert!(bad(|r| r.depth_code = 8));
+    assert!(bad(|r| r.depth_code = 1 << 32 | 4));
     assert!(bad(|r| r.depth_code = u64::MAX));
     assert!(bad(|r| r.wrptr = 16));
     assert!(bad(|r| r.wrptr = u64::MAX));
@@ -372,6 +446,10 @@ fn bad_states() {
     assert!(bad(|r| (r.depth_code, r.wrptr) = (1, 32)));
     assert!(!bad(|r| (r.depth_code, r.wrptr) = (3, 127)));
     assert!(bad(|r| (r.depth_code, r.wrptr) = (3, 128)));
+    assert!(!bad(|r| (r.depth_code, r.wrptr) = (4, 128)));
+    assert!(!bad(|r| (r.depth_code, r.wrptr) = (4, 255)));
+    assert!(bad(|r| (r.depth_code, r.wrptr) = (4, 256)));
+    assert!(bad(|r| (r.depth_code, r.wrptr) = (4, u64::MAX)));
     assert!(!bad(|r| r.mctrctl = 0x0000_FF3E_0000_1B87));
     assert!(!bad(|r| r.vsctrctl = 0x0000_FF3E_0000_1983));
     assert!(!bad(|r| (r.siselect, r.vsiselect) = (u64::MAX, u64::MAX)));
@@ -394,7 +472,7 @@ fn every_control_bit_outside_its_mask_is_bad() {
 /// Counted down from WRPTR, step by step.
 #[test]
 fn logical_entries_go_back_from_wrptr() {
-    for (depth_code, depth) in [(0, 16), (1, 32), (2, 64), (3, 128)] {
+    for (depth_code, depth) in DEPTHS {
         for wrptr in 0..depth {
             let registers = Registers {
                 depth_code,
@@ -412,7 +490,7 @@ fn logical_entries_go_back_from_wrptr() {
 
 /// A good state, and an entry, out of pseudo-random numbers.
 fn random_state(next: &mut impl FnMut() -> u64) -> (Registers, Entry) {
-    let depth_code = next() % 4;
+    let depth_code = next() % 5;
     let registers = Registers {
         mode: Mode::ALL[next() as usize % 5],
         mctrctl: next() & 0x0000_FF3E_0000_1B87,

@@ -79,6 +79,7 @@ fn files_are_written_into_folders_that_are_there() {
         "crates/trace_sweep",
         "crates/recorder_sweep",
         "crates/replay_sweep",
+        "crates/step_bench",
         "crates/replay/data",
         "examples/traces",
     ] {

@@ -244,7 +244,7 @@ fn code_of(s: u64) -> u64 {
     if s % 10 == 9 {
         0xFFFF_FFFF_FFFF_FFFF
     } else {
-        s % 5
+        s % 6
     }
 }
 
@@ -360,4 +360,5 @@ fn main() {
     report_depth(1);
     report_depth(2);
     report_depth(3);
+    report_depth(4);
 }

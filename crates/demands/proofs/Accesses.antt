@@ -256,7 +256,7 @@ module _ (s : State) where
   put-is (Select Supervisor) x n o = ap (λ (r : Registers). stateOf r (entriesIn s)) (siselect-written (b .mode) x)
   put-is (Select Guest) x n o = refl
   put-is (Ireg v k) x n o = ireg-written v k x (holds (window (selected b v)) (λ m. o (Outside.ireg m)))
-  put-is Depth x n o = rw (depth-is (min (x % 8) 3))
+  put-is Depth x n o = rw (depth-is (min (x % 8) 4))
   put-is Status x n o = rw (depth-is (b .buffer .code))
   put-is Unlisted x n o = refl
 

@@ -9,9 +9,9 @@ use Rattle.recorder.specs.Steps.{entriesIn, Whole}
 use Rattle.recorder.specs.declared.State.{State}
 use Rattle.demands.specs.Parts.{Parts}
 
-put : (s : State) (i : ℕ) (e : Entry) → Whole s → i < 128 → entryAt (withEntry (entriesIn s) i e) i ≡ e
+put : (s : State) (i : ℕ) (e : Entry) → Whole s → i < 256 → entryAt (withEntry (entriesIn s) i e) i ≡ e
 put s i e w h =
-    let room : (n : ℕ) → n ≡ 128 → i < n = λ n p. subst (λ (m : ℕ). i < m) (sym p) h in
+    let room : (n : ℕ) → n ≡ 256 → i < n = λ n p. subst (λ (m : ℕ). i < m) (sym p) h in
     rw (
       getD-set-same (s .ctrsource) i (e .ctrsource) 0 (room _ (w .ctrsource)),
       getD-set-same (s .ctrtarget) i (e .ctrtarget) 0 (room _ (w .ctrtarget)),

@@ -5,8 +5,10 @@ use mathlib.Core.Path.{_≡_, refl, sym, ap, _∙_}
 use mathlib.Core.Bool.{Bool, true, false, _&&_, false≢true}
 use native.Mathlib.Nat.{mod-eq-of-lt, mod-add-mod}
 use native.Mathlib.Omega.{arith}
-use lib.Dec.{eqb}
-use borrow.Author.Tests.{eqb-true, not-false}
+use lib.Dec.{eqb, ltb}
+use lib.ListN.{length, getD, List·getD-eq-default}
+use borrow.Author.Tests.{eqb-true, ltb-true, ltb-false, not-false}
+use Rattle.bits.proofs.Cases.{passed}
 use Rattle.bits.specs.Choice.{if_then_else_}
 use Rattle.bits.specs.Words.{bitAt}
 use Rattle.classifier.specs.Transfers.{typeOf}
@@ -14,7 +16,8 @@ use Rattle.classifier.specs.declared.Transfer.{Transfer}
 use Rattle.classifier.specs.declared.Transfer.the-variants.{None, Branch, IndirectCall, DirectCall, IndirectJump, DirectJump, CoroutineSwap, FunctionReturn, OtherIndirectJump, OtherDirectJump}
 use Rattle.machine.specs.Controls.{placeOf, controlWord, isSet}
 use Rattle.machine.specs.Modes.{isVirtual, controlOf, onOf, governingOf}
-use Rattle.machine.specs.Depths.{depthOf, physicalOf}
+use Rattle.machine.specs.Depths.{topCode, depthOf, physicalOf}
+use Rattle.machine.proofs.DepthLaws as Laws
 use Rattle.machine.specs.declared.ControlBit.{ControlBit}
 use Rattle.machine.specs.declared.ControlBit.the-variants as Bit
 use Rattle.machine.specs.declared.ControlRegister.{ControlRegister}
@@ -29,7 +32,7 @@ use Rattle.qualifying.specs.Changes.{possibleTrap, possibleReturn}
 use Rattle.qualifying.specs.Filters.{freezesOf, externalToS, externalToM, externalOf, inhibitBit, inhibitedOf}
 use Rattle.qualifying.specs.Outcomes.{rasemuOf}
 use Rattle.transfers.specs.Records.{sidePc}
-use Rattle.demands.specs.States.{depth, place, held, bit, IsSet, Traps, Returns}
+use Rattle.demands.specs.States.{depths, depth, place, held, bit, IsSet, Traps, Returns}
 use Rattle.demands.specs.Registers.{physical}
 use Rattle.demands.specs.Transfers.{switch, control, modeAfter, modeV, otherFields, RASEMU, trapType, Allows, External, Freezes, sideOf}
 use Rattle.demands.proofs.Decides.{Decides, via, Tested, tested}
@@ -315,19 +318,20 @@ freezes-is r t p h = go (t .interrupt) refl h
 pub freezes : (r : Registers) (t : TrapTo) → Traps (r .mode) (t .mode) → Decides (Freezes r (Trap t)) (freezesOf r t)
 freezes r t p = record { to = freezes-set; from = freezes-is r t p }
 
--- the depth
+-- the depth: of the codes in the list by one test over it, and past its end the largest
 pub depth-is : (c : ℕ) → depthOf c ≡ depth c
-unfolding depthOf
-depth-is zero = refl
-depth-is (suc zero) = refl
-depth-is (suc (suc zero)) = refl
-depth-is (suc (suc (suc n))) = let h : min (suc (suc (suc n))) 3 ≡ 3 = omega arith in rw h
+unfolding depthOf depth
+depth-is c = go (ltb c (length depths)) refl
+  where
+    go : (b : Bool) → ltb c (length depths) ≡ b → depthOf c ≡ depth c
+    go true h = eqb-true _ _ (passed (λ k. eqb (depthOf k) (getD depths k 256)) (length depths) c refl (ltb-true _ _ h))
+    go false h =
+        let l : length depths ≤ c = ltb-false _ _ h in
+        let m : min c topCode ≡ topCode = omega (arith, l) in
+        rw (m, List·getD-eq-default depths 256 l)
 
 pub depth-ge : (c : ℕ) → 16 ≤ depth c
-depth-ge zero = omega arith
-depth-ge (suc zero) = omega arith
-depth-ge (suc (suc zero)) = omega arith
-depth-ge (suc (suc (suc n))) = omega arith
+depth-ge c = omega (arith, Laws.depth-ge c, depth-is c)
 
 -- logical entries
 pub physical-is : (r : Registers) (i : ℕ) → i < depth (r .buffer .code) → physicalOf (r .buffer .code) (r .buffer .wrptr) i ≡ physical r i

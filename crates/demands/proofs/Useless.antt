@@ -6,6 +6,7 @@ use Rattle.recorder.specs.Runs.{Recorder}
 use Rattle.recorder.specs.Steps.{resetState}
 use Rattle.recorder.specs.declared.State.{State}
 use Prim.Native.Nat.{ℕ}
+use Rattle.demands.specs.States.{depth}
 use Rattle.demands.specs.Demands.{Demand2}
 use Rattle.demands.specs.Transfers.{withRecord}
 use Rattle.demands.specs.Useless.{Useless}
@@ -27,7 +28,7 @@ module _ (f : Recorder) where
   later-1 d = d .events later call .qualifies .1 (only-recorder .demand-2 .events later call .qualifies .0 (shown .1))
 
   moves : Demand2 f → f fresh call .state ≡ fresh → ⊥
-  unfolding wrptr
+  unfolding wrptr depth
   moves d h = omega (arith, ap wrptr (sym h ∙ d .events fresh call .recorded .0 (says-1 d)))
 
   pub useless : Useless f

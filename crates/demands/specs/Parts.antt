@@ -19,5 +19,5 @@ pub record Parts : Type 0 where
   pub entries : (r : Registers) (w : Entries) → entriesIn (stateOf r w) ≡ w
   pub whole : (s : State) → stateOf (s .registers) (entriesIn s) ≡ s
   -- an entry that is put is there, and no other changes
-  pub put : (s : State) (i : ℕ) (e : Entry) → Whole s → i < 128 → entryAt (withEntry (entriesIn s) i e) i ≡ e
+  pub put : (s : State) (i : ℕ) (e : Entry) → Whole s → i < 256 → entryAt (withEntry (entriesIn s) i e) i ≡ e
   pub kept : (w : Entries) (i j : ℕ) (e : Entry) → (j ≡ i → ⊥) → entryAt (withEntry w i e) j ≡ entryAt w j

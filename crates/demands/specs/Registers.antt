@@ -159,9 +159,9 @@ abbrev pub put : State → Csr → ℕ → State
 put s (Control Machine) x = registersTo (mctrctlTo (keep 0x0000FF3E00001B87 x) (s .registers)) s
 put s (Control Supervisor) x = registersTo (sctrctlTo (s .registers .mode) x (s .registers)) s
 put s (Control Guest) x = registersTo (vsctrctlTo (keep 0x0000FF3E00001983 x) (s .registers)) s
--- the low three bits, 4..7 become 3, and WRPTR becomes WRPTR modulo the new depth
+-- the low three bits, 5..7 become 4, and WRPTR becomes WRPTR modulo the new depth
 put s Depth x =
-    let code = min (x % 8) 3 in
+    let code = min (x % 8) 4 in
     registersTo (wrptrTo (s .registers .buffer .wrptr % depth code) (codeTo code (s .registers))) s
 -- WRPTR is the low eight bits modulo the depth
 put s Status x =
@@ -177,7 +177,7 @@ written s Write g x = put s g x
 written s Set g x = put s g (joined (reading s g) x)
 written s Clear g x = put s g (without (reading s g) x)
 
--- SCTRCLR zeroes all 384 entry words; WRPTR and FROZEN stay
+-- SCTRCLR zeroes all 768 entry words; WRPTR and FROZEN stay
 abbrev pub withZeros : State → State
 withZeros s = stateOf (s .registers) zeros
 

@@ -1,10 +1,11 @@
 -- State and events (docs/RULES.md, S), said from the papers by themselves: literal numbers and plain arithmetic, and no definition
 -- that the code is proved against but for what takes a state apart and puts it together (`Parts` says what that does) and the type
 -- of a word. The rules go on in Registers, Steps and Transfers.
-use Prim.Native.Nat.{ℕ, zero, suc, _≤_, _<_}
+use Prim.Native.Nat.{ℕ, _≤_, _<_}
 use mathlib.Core.Path.{_≡_}
 use mathlib.Core.Bool.{Bool, false}
-use lib.ListN.{replicate}
+use mathlib.Core.List.{List, [], _∷_}
+use lib.ListN.{getD, replicate}
 use Rattle.bits.specs.Words.{bitAt}
 use Rattle.machine.specs.declared.Mode.{Mode}
 use Rattle.machine.specs.declared.Mode.the-variants.{U, S, M, VU, VS}
@@ -24,9 +25,9 @@ use Rattle.recorder.specs.declared.State.{State}
 abbrev pub Is1 : ℕ → ℕ → Type 0
 Is1 x n = bitAt x n ≡ 1
 
--- 128 entries of three words, all 384 zero
+-- 256 entries of three words, at every depth; all 768 zero
 abbrev pub zeros : Entries
-zeros = entriesOf (replicate 128 0) (replicate 128 0) (replicate 128 0)
+zeros = entriesOf (replicate 256 0) (replicate 256 0) (replicate 256 0)
 
 -- at reset the mode is M and all else is 0
 abbrev pub start : State
@@ -40,12 +41,13 @@ start =
     })
     zeros
 
--- depth codes 0..3 are 16, 32, 64, 128. 128 stands for every other code too; those are number 5, and nothing is said of them
-abbrev pub depth : ℕ → ℕ
-depth zero = 16
-depth (suc zero) = 32
-depth (suc (suc zero)) = 64
-depth (suc (suc (suc n))) = 128
+-- the depths, by their codes 0 to 4
+abbrev pub depths : List ℕ
+depths = 16 ∷ 32 ∷ 64 ∷ 128 ∷ 256 ∷ []
+
+-- the depth of a code. 256 stands for every other code too; those are number 5, and nothing is said of them
+unfoldable pub depth : ℕ → ℕ
+depth code = getD depths code 256
 
 -- no bit of a control word is outside its mask
 abbrev pub Within : ℕ → ℕ → Type 0
@@ -89,9 +91,9 @@ IsSet r c b = bit r c b ≡ 1
 abbrev pub IsClear : Registers → ControlRegister → ControlBit → Type 0
 IsClear r c b = bit r c b ≡ 0
 
--- free of number 5, which is a depth code above 3, WRPTR not below the depth, or a control bit outside its mask
+-- free of number 5, which is a depth code above 4, WRPTR not below the depth, or a control bit outside its mask
 pub record Free (r : Registers) : Type 0 where
-  pub code : r .buffer .code ≤ 3
+  pub code : r .buffer .code ≤ 4
   pub pointer : r .buffer .wrptr < depth (r .buffer .code)
   pub mctrctl : Within 0x0000FF3E00001B87 (r .controls .mctrctl)
   pub vsctrctl : Within 0x0000FF3E00001983 (r .controls .vsctrctl)

@@ -23,6 +23,10 @@ pub depth-le : (c : ℕ) → depthOf c ≤ 2 ^ (4 + topCode)
 unfolding depthOf
 depth-le c = pow-mono {i = 4 + min c topCode} {j = 4 + topCode} (omega arith)
 
+pub depth-ge : (c : ℕ) → 2 ^ 4 ≤ depthOf c
+unfolding depthOf
+depth-ge c = pow-mono {i = 4} {j = 4 + min c topCode} (omega arith)
+
 -- a number modulo the depth is below the largest depth
 pub wrapped-lt : (x c : ℕ) → x % depthOf c < 2 ^ (4 + topCode)
 wrapped-lt x c = omega (arith, mod-lt x (depth-pos c), depth-le c)

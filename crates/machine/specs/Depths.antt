@@ -3,9 +3,9 @@ use Prim.Native.Nat.{ℕ, _+_, _-_, _%_, _^_, min}
 
 -- the largest depth code
 abbrev pub topCode : ℕ
-topCode = 3
+topCode = 4
 
--- the depth of a depth code: 16, 32, 64, 128; all codes above the largest count as it
+-- the depth of a depth code: 16, 32, 64, 128, 256; all codes above the largest count as it
 unfoldable pub depthOf : ℕ → ℕ
 depthOf code = 2 ^ (4 + min code topCode)
 

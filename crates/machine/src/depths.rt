@@ -5,7 +5,7 @@ ghost use lib.Dec.{ltb};
 ghost use Rattle.machine.specs.Depths.{topCode, depthOf, physicalOf};
 
 // The largest depth code.
-pub const TOP_CODE: u64 = 3;
+pub const TOP_CODE: u64 = 4;
 
 // A depth code, or the largest where it is above it.
 pub fn capped(code: u64) -> u64

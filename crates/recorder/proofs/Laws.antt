@@ -33,7 +33,7 @@ use Rattle.recorder.specs.declared.Answered.{Answered}
 pub at-wrptr-lt : (r : Registers) → atWrptr (r .buffer) < entries
 at-wrptr-lt r = wrapped-lt (r .buffer .wrptr) (r .buffer .code)
 
-physical-lt : (code wrptr i : ℕ) → physicalOf code wrptr i < entries
+pub physical-lt : (code wrptr i : ℕ) → physicalOf code wrptr i < entries
 unfolding physicalOf
 physical-lt code wrptr i = wrapped-lt _ code
 

@@ -9,7 +9,7 @@ use Rattle.machine.specs.declared.Effect.the-variants.{Keep, Put, ClearAll}
 
 -- how many there are
 abbrev pub entries : ℕ
-entries = 128
+entries = 256
 
 pub record Entries : Type 0 where
   pub ctrsource : List ℕ

@@ -7,7 +7,7 @@ pub mod steps;
 use machine::Registers;
 
 // How many entries there are.
-pub const ENTRIES: usize = 128;
+pub const ENTRIES: usize = 256;
 
 // The registers, and the words of each physical entry.
 pub struct State {

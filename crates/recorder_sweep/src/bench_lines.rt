@@ -134,26 +134,36 @@ fn enables() {
     );
 }
 
-// A word written to sireg under a selection at depth 128.
-fn selected(selection: u64) -> State {
-    let s = write(reset(), SCTRDEPTH, 3);
+// A word written to sireg under a selection, at the depth of a code.
+fn selected(code: u64, selection: u64) -> State {
+    let s = write(reset(), SCTRDEPTH, code);
     write(write(s, SISELECT, selection), SIREG, 0xABCD)
 }
 
 fn selections() {
     line(
         b"selection 0x27f at depth 128",
-        selected(0x27F),
+        selected(3, 0x27F),
         read(SIREG),
     );
     line(
         b"selection 0x280 at depth 128",
-        selected(0x280),
+        selected(3, 0x280),
         read(SIREG),
     );
     line(
         b"selection 0x300 at depth 128",
-        selected(0x300),
+        selected(3, 0x300),
+        read(SIREG),
+    );
+    line(
+        b"selection 0x2ff at depth 256",
+        selected(4, 0x2FF),
+        read(SIREG),
+    );
+    line(
+        b"selection 0x300 at depth 256",
+        selected(4, 0x300),
         read(SIREG),
     );
 }

@@ -99,8 +99,8 @@ const NUMBERS: [u64; 40] = [
     0x250,
 ];
 
-// Both ends of the window, and of the entries at depths 16 and 128; then in the window but for a high
-// bit.
+// Both ends of the window, and of the entries at depths 16, 128 and 256; then in the window but for a
+// high bit.
 const EDGES: [u64; 10] = [
     0x1FF,
     0x200,
@@ -282,6 +282,15 @@ fn thaw(z: u64) -> Event {
     })
 }
 
+// A write of any depth code.
+fn resize(z: u64) -> Event {
+    Event::Access(CsrAccess {
+        operation: Operation::Write,
+        number: 0x15F,
+        operand: z % 8,
+    })
+}
+
 fn trap_return(mode: Mode, c: u64, pc: u64, target: u64) -> Event {
     Event::TrapReturn(ReturnTo {
         mode: return_target(mode, c),
@@ -303,7 +312,8 @@ fn event_of(mode: Mode, k: u64, w: u64, x: u64, y: u64, z: u64) -> Event {
         0..=29 => retired(w, x, y, c % 2 == 1),
         30..=37 => trap(mode, c, z, x, y),
         38..=45 => trap_return(mode, c, x, y),
-        46..=58 => access(c, w, z),
+        46..=57 => access(c, w, z),
+        58 => resize(z),
         59..=61 => thaw(z),
         62 => Event::Sctrclr,
         _ => host(c),

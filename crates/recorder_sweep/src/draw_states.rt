@@ -30,7 +30,7 @@ fn allowed(choice: u64) -> u64 {
 }
 
 fn good_controls(a: u64, b: u64, c: u64) -> ControlWords {
-    let bits = allowed(a / 2560);
+    let bits = allowed(a / 3200);
     ControlWords {
         mctrctl: b & MCTRCTL_MASK & bits,
         vsctrctl: c & SCTRCTL_MASK & bits,
@@ -38,11 +38,11 @@ fn good_controls(a: u64, b: u64, c: u64) -> ControlWords {
 }
 
 fn good_buffer(a: u64, d: u64) -> Buffer {
-    let code = a / 5 % 4;
+    let code = a / 5 % 5;
     Buffer {
         code,
         wrptr: machine::depths::wrapped(d, code),
-        frozen: a / 20 % 8 == 0,
+        frozen: a / 25 % 8 == 0,
     }
 }
 
@@ -55,8 +55,8 @@ fn selects_of(f: u64) -> Selects {
 
 fn enables_of(a: u64) -> Enables {
     Enables {
-        mstateen0: a / 160 % 4 != 0,
-        hstateen0: a / 640 % 4 != 0,
+        mstateen0: a / 200 % 4 != 0,
+        hstateen0: a / 800 % 4 != 0,
     }
 }
 
@@ -74,7 +74,7 @@ fn from_up(least: u64, d: u64) -> u64 {
 fn spoiled_buffer(b: Buffer, choice: u64, d: u64) -> Buffer {
     let mut q = b;
     match choice % 16 {
-        0 => q.code = from_up(4, d),
+        0 => q.code = from_up(5, d),
         1 => q.wrptr = from_up(machine::depths::depth(b.code), d),
         _ => {}
     }
@@ -99,8 +99,8 @@ pub(crate) fn draw_registers(random: u64) -> Start {
     let f = xorshift64(d);
     let registers = Registers {
         mode: mode_of(a % 5),
-        controls: spoiled_controls(good_controls(a, b, c), a / 10240),
-        buffer: spoiled_buffer(good_buffer(a, d), a / 10240, d),
+        controls: spoiled_controls(good_controls(a, b, c), a / 12800),
+        buffer: spoiled_buffer(good_buffer(a, d), a / 12800, d),
         selects: selects_of(f),
         enables: enables_of(a),
     };

@@ -3,9 +3,12 @@
 use machine::Mode;
 use machine::Registers;
 use machine::modes::is_on;
+use sweep_support::lines::put_row;
 use trace::codes::flag;
 
-// Eight edges, 16 cells each.
+const EDGES: usize = 8;
+
+// 16 of each edge.
 pub(crate) const CELLS: usize = 128;
 
 pub(crate) const RASEMU_AND_TRETINH: u64 = 0x8_0000_0080;
@@ -59,41 +62,23 @@ pub(crate) fn cell(before: Registers, after: Mode) -> u64 {
 // The name of an edge.
 fn put_name(out: &mut [u8], at: usize, edge: usize) -> usize {
     match edge {
-        0 => text::put(out, at, b"    S to VS "),
-        1 => text::put(out, at, b"    S to VU "),
-        2 => text::put(out, at, b"    M to VS "),
-        3 => text::put(out, at, b"    M to VU "),
-        4 => text::put(out, at, b"    VS to S "),
-        5 => text::put(out, at, b"    VS to M "),
-        6 => text::put(out, at, b"    VU to S "),
-        _ => text::put(out, at, b"    VU to M "),
+        0 => text::put(out, at, b"    S to VS"),
+        1 => text::put(out, at, b"    S to VU"),
+        2 => text::put(out, at, b"    M to VS"),
+        3 => text::put(out, at, b"    M to VU"),
+        4 => text::put(out, at, b"    VS to S"),
+        5 => text::put(out, at, b"    VS to M"),
+        6 => text::put(out, at, b"    VU to S"),
+        _ => text::put(out, at, b"    VU to M"),
     }
-}
-
-// The name before the first cell of an edge.
-fn put_head(out: &mut [u8], at: usize, k: usize) -> usize {
-    if k % 16 == 0 {
-        put_name(out, at, k / 16)
-    } else {
-        at
-    }
-}
-
-fn after_cell(k: usize) -> u8 {
-    if k % 16 == 15 { b'\n' } else { b' ' }
-}
-
-fn put_cell(out: &mut [u8], at: usize, k: usize, count: u64) -> usize {
-    let mut next = put_head(out, at, k);
-    next = text::put_decimal(out, next, count);
-    text::put_byte(out, next, after_cell(k))
 }
 
 // A line for each edge.
 fn put_cells(out: &mut [u8], at: usize, edges: [u64; CELLS]) -> usize {
     let mut next = at;
-    for k in 0..CELLS {
-        next = put_cell(out, next, k, edges[k]);
+    for k in 0..EDGES {
+        next = put_name(out, next, k);
+        next = put_row(out, next, &edges[16 * k..16 * k + 16]);
     }
     next
 }

@@ -1,13 +1,13 @@
 // Runs the recorder on the published cases, on long random lists of events, and on pairs of lists
 // that differ only where modes are off. The gate compares what it prints with what the model prints.
 mod bench_lines;
+mod depths;
 mod draw_events;
 mod draw_states;
 mod edges;
 mod events;
 mod pairs;
 mod random_run;
-mod states;
 
 fn main() {
     bench_lines::report();

@@ -1,4 +1,8 @@
 // Long lists of random events, each from a random state.
+use crate::depths::Depths;
+use crate::depths::no_depths;
+use crate::depths::put_depths;
+use crate::depths::with_step;
 use crate::draw_events::draw_event;
 use crate::draw_states::draw_entries;
 use crate::draw_states::draw_registers;
@@ -7,8 +11,8 @@ use crate::edges::CELLS;
 use crate::edges::cell;
 use crate::edges::put_edges;
 use crate::events::is_transfer;
-use crate::states::digest_state;
 use libc::STDOUT_FILENO;
+use machine::Buffer;
 use machine::Mode;
 use machine::Registers;
 use machine::answers::number_index;
@@ -21,6 +25,7 @@ use sweep_support::digests::digest_answer;
 use sweep_support::lines::put_count;
 use sweep_support::lines::put_counts;
 use sweep_support::lines::put_word;
+use sweep_support::states::digest_state;
 use test_support::SEED;
 use trace::codes::flag;
 
@@ -33,12 +38,15 @@ struct Tally {
     numbers: [u64; 6],
     values: [u64; 5],
     edges: [u64; CELLS],
+    depths: Depths,
     answers: u64,
     states: u64,
 }
 
-// A list under way, but for its entries.
+// A list under way, but for its entries: whether it started good, and the largest depth code so far.
 struct List {
+    good: bool,
+    deepest: u64,
     registers: Registers,
     tally: Tally,
 }
@@ -75,6 +83,34 @@ fn with_edge(t: Tally, before: Registers, after: Mode) -> Tally {
     next
 }
 
+// The value of a transfer that was answered, and else 0.
+fn transfer_value(transfer: bool, number: u64, value: u64) -> u64 {
+    if transfer && number == 0 { value } else { 0 }
+}
+
+fn larger(a: u64, b: u64) -> u64 {
+    if a < b { b } else { a }
+}
+
+// The depths that a step met, if it is one of a list that started good.
+fn with_depths(
+    t: Tally,
+    good: bool,
+    ctrsource: &[u64; ENTRIES],
+    before: Buffer,
+    after: Buffer,
+    value: u64,
+    deepest: u64,
+) -> Tally {
+    let mut next = t;
+    if good {
+        let d = t.depths;
+        let depths = with_step(d, ctrsource, before, after, value, deepest);
+        next.depths = depths;
+    }
+    next
+}
+
 fn started(t: Tally, random: u64, good: bool) -> Tally {
     let mut next = t;
     next.random = random;
@@ -95,13 +131,24 @@ fn run_event(
     let e = drawn.event;
     let a = step_in_place(ctrsource, ctrtarget, ctrdata, r, e);
     let registers = a.registers;
-    let mut tally = tallied(l.tally, is_transfer(e), a.number, a.value);
-    let after = registers.mode;
-    tally = with_edge(tally, r, after);
+    let transfer = is_transfer(e);
+    let mut tally = tallied(l.tally, transfer, a.number, a.value);
+    let mode = registers.mode;
+    tally = with_edge(tally, r, mode);
+    let before = r.buffer;
+    let after = registers.buffer;
+    let value = transfer_value(transfer, a.number, a.value);
+    let deepest = larger(l.deepest, before.code);
+    tally = with_depths(tally, l.good, ctrsource, before, after, value, deepest);
     tally.random = drawn.random;
     tally.frozen = wrapping_add_u64(tally.frozen, flag(r.buffer.frozen));
     tally.states = digest_state(tally.states, registers, ctrsource, ctrtarget, ctrdata);
-    List { registers, tally }
+    List {
+        good: l.good,
+        deepest,
+        registers,
+        tally,
+    }
 }
 
 fn run_list(t: Tally, list: u64) -> Tally {
@@ -115,6 +162,8 @@ fn run_list(t: Tally, list: u64) -> Tally {
     let good = is_good(registers);
     let events = events_from(good);
     let mut l = List {
+        good,
+        deepest: 0,
         registers,
         tally: started(t, filled, good),
     };
@@ -133,6 +182,7 @@ fn run_lists() -> Tally {
         numbers: [0; 6],
         values: [0; 5],
         edges: [0; CELLS],
+        depths: no_depths(),
         answers: 0,
         states: 0,
     };
@@ -148,6 +198,12 @@ fn put_answers(out: &mut [u8], at: usize, numbers: [u64; 6], values: [u64; 5]) -
     put_counts(out, next, b"  value ", &values)
 }
 
+// The edges and the depths that were met.
+fn put_met(out: &mut [u8], at: usize, edges: [u64; CELLS], depths: Depths) -> usize {
+    let next = put_edges(out, at, edges);
+    put_depths(out, next, depths)
+}
+
 pub(crate) fn report() {
     let t = run_lists();
     let mut out = [0u8; 2048];
@@ -159,8 +215,9 @@ pub(crate) fn report() {
     let numbers = t.numbers;
     let values = t.values;
     let edges = t.edges;
+    let depths = t.depths;
     at = put_answers(&mut out, at, numbers, values);
-    at = put_edges(&mut out, at, edges);
+    at = put_met(&mut out, at, edges, depths);
     at = put_word(&mut out, at, b"  answers 0x", t.answers);
     at = put_word(&mut out, at, b"  states 0x", t.states);
     io::write_all(STDOUT_FILENO, text::before(&out, at));

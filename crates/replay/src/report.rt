@@ -1,4 +1,6 @@
 // What a trace left behind: counts, registers, the history and the entries, a line each.
+ghost use Prim.Native.Nat.{_<_};
+ghost use Rattle.recorder.specs.Entries.{entries};
 use crate::output::end_line;
 use crate::output::put_line;
 use machine::Buffer;
@@ -145,6 +147,13 @@ fn put_if_valid(out: &mut [u8], at: usize, i: u64, e: Entry) -> usize {
     }
 }
 
+// The index of logical entry i.
+fn index_of(b: Buffer, i: u64) -> usize
+    ensures { λ p. ⌜ p < entries ⌝ }
+{
+    physical(b.code, b.wrptr, i) as usize
+}
+
 // The valid entries, newest first.
 pub(crate) fn put_history(
     out: &mut [u8],
@@ -156,7 +165,7 @@ pub(crate) fn put_history(
 ) -> usize {
     let mut next = at;
     for i in 0..depth(b.code) {
-        let p = (physical(b.code, b.wrptr, i) % 128) as usize;
+        let p = index_of(b, i);
         let e = Entry {
             ctrsource: ctrsource[p],
             ctrtarget: ctrtarget[p],

@@ -5,7 +5,6 @@ use crate::answer_words::digest_answers;
 use crate::answer_words::fill;
 use crate::input::at_most;
 use crate::input::between;
-use crate::states::digest_state;
 use crate::tally::Tally;
 use crate::tally::with_cut;
 use crate::tally::with_run;
@@ -14,6 +13,7 @@ use crate::whole::Trial;
 use machine::Registers;
 use recorder::ENTRIES;
 use std::num::wrapping_add_usize;
+use sweep_support::states::digest_state;
 use trace::Ran;
 use trace::runs::replay_in_place;
 

@@ -8,7 +8,6 @@ mod input;
 mod malformed;
 mod slices;
 mod starts;
-mod states;
 mod tally;
 mod whole;
 

@@ -10,7 +10,7 @@ fn made_bad(r: Registers, way: usize) -> Registers {
     let vsctrctl = r.controls.vsctrctl | 4;
     let mut q = r;
     match way % 4 {
-        0 => q.buffer.code = 4,
+        0 => q.buffer.code = 5,
         1 => q.buffer.wrptr = past_last,
         2 => q.controls.mctrctl = mctrctl,
         _ => q.controls.vsctrctl = vsctrctl,

@@ -3,10 +3,10 @@ use crate::answer_words::ROOM;
 use crate::answer_words::digest_answers;
 use crate::answer_words::fill;
 use crate::input::at_most;
-use crate::states::digest_value;
 use crate::tally::Tally;
 use crate::tally::with_run;
 use recorder::State;
+use sweep_support::states::digest_value;
 use trace::Replayed;
 use trace::runs::replay;
 

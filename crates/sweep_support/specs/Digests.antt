@@ -1,11 +1,12 @@
 -- Digests with answers, registers and entries taken in, field by field in their order.
-use Prim.Native.Nat.{ℕ}
+use Prim.Native.Nat.{ℕ, zero, suc}
 use Rattle.machine.specs.declared.Buffer.{Buffer}
 use Rattle.machine.specs.declared.ControlWords.{ControlWords}
 use Rattle.machine.specs.declared.Enables.{Enables}
 use Rattle.machine.specs.declared.Entry.{Entry}
 use Rattle.machine.specs.declared.Registers.{Registers}
 use Rattle.machine.specs.declared.Selects.{Selects}
+use Rattle.recorder.specs.Entries.{entries, Entries, entryAt}
 use Rattle.test_support.specs.Words.{digested}
 use Rattle.trace.specs.Codes.{flagOf, modeCode}
 
@@ -34,3 +35,12 @@ unfoldable pub withRegisters : ℕ → Registers → ℕ
 withRegisters h r =
     withEnables (withSelects (withBuffer (withControls (digested h (modeCode (r .mode))) (r .controls)) (r .buffer)) (r .selects))
     (r .enables)
+
+-- the first n entries
+unfoldable pub withEntries : ℕ → Entries → ℕ → ℕ
+withEntries h w zero = h
+withEntries h w (suc n) = withEntry (withEntries h w n) (entryAt w n)
+
+-- a state: the registers, then every entry
+unfoldable pub withState : ℕ → Registers → Entries → ℕ
+withState h r w = withEntries (withRegisters h r) w entries

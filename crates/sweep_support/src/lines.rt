@@ -2,7 +2,7 @@
 ghost use mathlib.Core.Path.{_≡_};
 ghost use lib.ListN.{length};
 ghost use Rattle.text.specs.Page.{page};
-ghost use Rattle.sweep_support.specs.Lines.{wordLine, countLine, numberedLine, numberedLines};
+ghost use Rattle.sweep_support.specs.Lines.{wordLine, countLine, numberedLine, numberedLines, cell, rowLine};
 
 // A name, and a word in hexadecimal.
 pub fn put_word(out: &mut [u8], at: usize, name: &[u8], w: u64) -> usize
@@ -42,4 +42,25 @@ pub fn put_counts(out: &mut [u8], at: usize, name: &[u8], counts: &[u64]) -> usi
         k += 1;
     }
     next
+}
+
+// A count behind a space.
+fn put_cell(out: &mut [u8], at: usize, count: u64) -> usize
+    ensures { λ r. ⌜ page r (now (out .exit)) ≡ cell (page at (now (out .entry))) count ⌝ }
+{
+    let next = text::put_byte(out, at, b' ');
+    text::put_decimal(out, next, count)
+}
+
+// Counts in a row, each behind a space.
+pub fn put_row(out: &mut [u8], at: usize, counts: &[u64]) -> usize
+    ensures { λ r. ⌜ page r (now (out .exit)) ≡ rowLine (page at (now (out .entry))) (now (counts .entry)) ⌝ }
+{
+    let mut next = at;
+    let mut k = 0;
+    while k < counts.len() {
+        next = put_cell(out, next, counts[k]);
+        k += 1;
+    }
+    text::put_byte(out, next, b'\n')
 }

@@ -60,9 +60,9 @@ impl Random {
         let (mctrctl, vsctrctl) = (self.draw(), self.draw());
         let depth_code = match s % 10 {
             9 => u64::MAX,
-            _ => s % 5,
+            _ => s % 6,
         };
-        let depth = 16 << depth_code.min(3);
+        let depth = 16 << depth_code.min(4);
         let wrptr = self.draw();
         Registers {
             mode,

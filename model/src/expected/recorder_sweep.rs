@@ -2,6 +2,7 @@
 //! pairs of lists that differ only where modes are off.
 
 mod bench_lines;
+mod depths;
 mod draw;
 mod edges;
 mod pairs;
@@ -23,7 +24,7 @@ pub fn recorder_sweep() -> String {
 }
 
 /// The digest of a list that goes on with an answer.
-fn with_answer(h: u64, answer: Answer) -> u64 {
+pub(super) fn with_answer(h: u64, answer: Answer) -> u64 {
     extended(h, [answer.number.into(), answer.value])
 }
 

@@ -25,10 +25,10 @@ const EXTERNAL: Setup = &[(SCTRDEPTH, 0), (MCTRCTL, 0x301)];
 /// 16 entries; U on, RASEMU.
 const CALL_STACK: Setup = &[(SCTRDEPTH, 0), (MCTRCTL, 0x81)];
 
-/// 128 entries; all five modes on.
-const ALL_MODES: Setup = &[(SCTRDEPTH, 3), (MCTRCTL, 0x7), (VSCTRCTL, 0x3)];
+/// 256 entries; all five modes on.
+const ALL_MODES: Setup = &[(SCTRDEPTH, 4), (MCTRCTL, 0x7), (VSCTRCTL, 0x3)];
 
-/// The same, and branches that are not taken.
+/// 128 entries; the same modes, and branches that are not taken.
 const ALL_BRANCHES: Setup = &[
     (SCTRDEPTH, 3),
     (MCTRCTL, 0x10_0000_0007),

@@ -245,8 +245,8 @@ hstateen0.CTR 0x0
             mode: Mode::VS,
             mctrctl: 0xFF3E_0000_1B87,
             vsctrctl: 0x83,
-            depth_code: 3,
-            wrptr: 0x7F,
+            depth_code: 4,
+            wrptr: 0xFF,
             frozen: true,
             siselect: 0x2AB,
             vsiselect: u64::MAX,
@@ -257,8 +257,8 @@ hstateen0.CTR 0x0
 mode VS
 mctrctl 0xff3e00001b87
 vsctrctl 0x83
-sctrdepth 0x3
-sctrstatus 0x8000007f
+sctrdepth 0x4
+sctrstatus 0x800000ff
 siselect 0x2ab
 vsiselect 0xffffffffffffffff
 mstateen0.CTR 0x1
@@ -295,16 +295,28 @@ hstateen0.CTR 0x1
         );
     }
 
+    /// At depth 256 logical entries 241 and 255 are physical entries 16 and 2.
+    #[test]
+    fn valid_entries_go_up_to_the_depth() {
+        let mut machine = machine_with_entries();
+        machine.registers.depth_code = 4;
+        assert_eq!(
+            valid_entries(&machine),
+            "0 0x1000 -> 0x2002 indirect call\n241 0x5000 -> 0x6000 exception\n\
+             255 0x0 -> 0x0 reserved\n"
+        );
+    }
+
     #[test]
     fn physical_entries_are_shown_whole() {
         let text = physical_entries(&machine_with_entries().entries);
         let lines: Vec<&str> = text.lines().collect();
-        assert_eq!(lines.len(), 128);
+        assert_eq!(lines.len(), 256);
         assert_eq!(lines[0], "0 0x0 0x0 0x0");
         assert_eq!(lines[1], "1 0x1001 0x2003 0xfff8");
         assert_eq!(lines[3], "3 0x3000 0x4000 0x9");
         assert_eq!(lines[16], "16 0x5001 0x6000 0x1");
-        assert_eq!(lines[127], "127 0x0 0x0 0x0");
+        assert_eq!(lines[255], "255 0x0 0x0 0x0");
     }
 
     #[test]

@@ -149,7 +149,7 @@ impl Recorder {
             }
             Sctrdepth => {
                 let old = self.depth_code();
-                self.last = (16 << (change.written(old) & 7).min(3)) - 1;
+                self.last = (16 << (change.written(old) & 7).min(4)) - 1;
                 self.wrptr &= self.last;
                 old
             }

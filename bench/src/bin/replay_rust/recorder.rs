@@ -31,7 +31,7 @@ const CALL_STACK: u32 = 1 << INDIRECT_CALL | 1 << DIRECT_CALL | 1 << SWAP | 1 <<
 pub const V: u64 = 1;
 
 /// The number of physical entries.
-pub const ENTRIES: usize = 128;
+pub const ENTRIES: usize = 256;
 
 #[derive(Clone, Copy, Debug, PartialEq)]
 pub enum Mode {

@@ -113,11 +113,17 @@ fn add_enables_and_selections(bench: &mut Bench) {
         "VS reads sctrdepth with mstateen0.CTR 1",
         &[host(true, true), return_to(VS), read(SCTRDEPTH)],
     );
-    for selection in [0x27F, 0x280, 0x300] {
+    for (depth, code, selection) in [
+        (128, 3, 0x27F),
+        (128, 3, 0x280),
+        (128, 3, 0x300),
+        (256, 4, 0x2FF),
+        (256, 4, 0x300),
+    ] {
         bench.line(
-            &format!("selection 0x{selection:x} at depth 128"),
+            &format!("selection 0x{selection:x} at depth {depth}"),
             &[
-                write(SCTRDEPTH, 3),
+                write(SCTRDEPTH, code),
                 write(SISELECT, selection),
                 write(SIREG, 0xABCD),
                 read(SIREG),
@@ -263,11 +269,13 @@ mod tests {
     use super::*;
 
     /// Number and value of each line: refusals of VS, what is read back, records and the pop.
-    const PUBLISHED: [(u8, u64); 31] = [
+    const PUBLISHED: [(u8, u64); 33] = [
         (1, 0),
         (2, 0),
         (0, 0xABCD),
         (0, 0),
+        (3, 0),
+        (0, 0xABCD),
         (3, 0),
         (0, 0x0000_FF3E_0000_1B87),
         (0, 0x0000_FF3E_0000_1983),
@@ -276,7 +284,7 @@ mod tests {
         (0, 1),
         (0, 0),
         (0, 0x1001),
-        (0, 3),
+        (0, 4),
         (0, 0),
         (0, 0),
         (0, 1),

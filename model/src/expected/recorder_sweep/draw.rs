@@ -5,7 +5,7 @@ use std::array;
 use crate::access::{Access, Operation};
 use crate::expected::random::Random;
 use crate::recorder::{Event, Machine, Retired, Trap, TrapReturn};
-use crate::registers::csr::SCTRSTATUS;
+use crate::registers::csr::{SCTRDEPTH, SCTRSTATUS};
 use crate::registers::{Mode, Registers, DEPTHS, MCTRCTL_MASK, SCTRCTL_MASK};
 
 /// Each type by each kind of word that has it, with x1, x5 and a register that is not link as rd
@@ -90,8 +90,8 @@ const NUMBERS: [u64; 40] = [
     0x250,
 ];
 
-/// Selections at both ends of the window, of the entries in use at depth 16, and of all entries; and
-/// one in the window but for a high bit.
+/// Selections at both ends of the window, and of the entries in use at depths 16, 128 and 256; and
+/// some in the window but for a high bit.
 const EDGES: [u64; 10] = [
     0x1FF,
     0x200,
@@ -164,7 +164,7 @@ impl Random {
         let [a, b, c, d, f] = self.draw_all();
         let mut choices = Choices(a);
         let mode = mode(choices.below(5));
-        let depth_code = choices.below(4);
+        let depth_code = choices.below(5);
         let depth = one_of(&DEPTHS, depth_code);
         let frozen = choices.below(8) == 0;
         let mstateen0_ctr = choices.below(4) != 0;
@@ -183,7 +183,7 @@ impl Random {
             hstateen0_ctr,
         };
         match choices.below(16) {
-            0 => registers.depth_code = from_up(4, d),
+            0 => registers.depth_code = from_up(5, d),
             1 => registers.wrptr = from_up(depth, d),
             2 => registers.mctrctl |= 1 << 3,
             3 => registers.vsctrctl |= 1 << 2,
@@ -211,11 +211,12 @@ impl Random {
                 pc: x,
                 target: y,
             }),
-            46..=58 => Event::Access(Access {
+            46..=57 => Event::Access(Access {
                 operation: one_of(&Operation::ALL, c),
                 csr: one_of(&NUMBERS, w),
                 operand: operand(c / 4, z),
             }),
+            58 => resize(z),
             59..=61 => thaw(z),
             62 => Event::Sctrclr,
             _ => Event::Host {
@@ -265,6 +266,15 @@ fn thaw(z: u64) -> Event {
         operation: Operation::Write,
         csr: SCTRSTATUS,
         operand: z % 256,
+    })
+}
+
+/// A write of any depth code.
+fn resize(z: u64) -> Event {
+    Event::Access(Access {
+        operation: Operation::Write,
+        csr: SCTRDEPTH,
+        operand: z % 8,
     })
 }
 
@@ -387,11 +397,11 @@ mod tests {
         let mut random = Random::from_seed();
         let drawn: Vec<Registers> = (0..4000).map(|_| random.registers()).collect();
         let codes = || drawn.iter().map(|registers| registers.depth_code);
-        assert!(all_in(&[0, 1, 2, 3, 4, u64::MAX], codes()));
+        assert!(all_in(&[0, 1, 2, 3, 4, 5, u64::MAX], codes()));
         assert!(codes().any(|code| code > 1 << 32 && code < u64::MAX));
-        let good = |registers: &&Registers| registers.depth_code < 4;
+        let good = |registers: &&Registers| registers.depth_code < 5;
         let pointers = || drawn.iter().filter(good).map(|registers| registers.wrptr);
-        assert!(all_in(&[16, 32, 64, 128, u64::MAX], pointers()));
+        assert!(all_in(&[16, 32, 64, 128, 255, 256, u64::MAX], pointers()));
         assert!(pointers().any(|wrptr| wrptr > 1 << 32 && wrptr < u64::MAX));
     }
 }

@@ -1,5 +1,6 @@
 //! Long lists of random events, each list from a random state.
 
+use super::depths::Depths;
 use super::edges::{Edges, RASEMU, TRETINH};
 use super::{with_answer, with_state};
 use crate::access::Answer;
@@ -15,8 +16,8 @@ const EVENTS: u32 = 400;
 /// How many it has from a bad state, where all events have the same answer.
 const EVENTS_IF_BAD: u32 = 40;
 
-/// How many events met FROZEN, how often each number was answered and each value, the edges that were met, and digests of
-/// answers and of the states after them.
+/// How many events met FROZEN, how often each number was answered and each value, the edges and the depths that were met, and
+/// digests of answers and of the states after them.
 #[derive(Default)]
 struct Tally {
     bad_starts: u32,
@@ -25,6 +26,7 @@ struct Tally {
     numbers: [u32; 6],
     values: [u32; 5],
     edges: Edges,
+    depths: Depths,
     answers: u64,
     states: u64,
 }
@@ -51,6 +53,7 @@ impl Tally {
             text += &format!("  value {value} {count}\n");
         }
         text += &self.edges.lines();
+        text += &self.depths.lines();
         text += &format!("  answers 0x{:016x}\n", self.answers);
         text + &format!("  states 0x{:016x}\n", self.states)
     }
@@ -74,12 +77,18 @@ fn add_list(tally: &mut Tally, random: &mut Random, list: u64) {
     set_bits(&mut machine.registers, list);
     let is_bad = machine.registers.is_bad();
     tally.bad_starts += u32::from(is_bad);
+    let mut deepest = 0;
     for _ in 0..if is_bad { EVENTS_IF_BAD } else { EVENTS } {
         let event = random.event(machine.registers.mode);
         tally.frozen += u32::from(machine.registers.frozen);
         let before = machine.registers;
         let answer = machine.step(event);
         tally.edges.add(&before, machine.registers.mode);
+        if !is_bad {
+            let value = (answer.number == 0 && event.is_transfer()).then_some(answer.value);
+            deepest = deepest.max(before.depth());
+            tally.depths.add(&before, &machine, value, deepest);
+        }
         tally.add(event, answer, &machine);
     }
 }
@@ -112,5 +121,15 @@ mod tests {
         assert!(counts.all(|count| *count > 0), "{}", tally.lines());
         let mut cells = tally.edges.0.iter().flatten();
         assert!(cells.all(|count| *count > 0), "{}", tally.lines());
+        let Depths {
+            changes,
+            upper,
+            wraps_up,
+            wraps_down,
+            back,
+        } = &tally.depths;
+        let others = [upper, wraps_up, wraps_down, back];
+        let mut depths = changes.iter().flatten().chain(others);
+        assert!(depths.all(|count| *count > 0), "{}", tally.lines());
     }
 }

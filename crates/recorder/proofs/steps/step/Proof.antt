@@ -1,6 +1,7 @@
 -- `recorder::steps::step` meets its contract. Assumes nothing.
 use Prim.Native.Nat.{ℕ}
 use borrow.Author.Needs.{length-unmapped}
+use Rattle.recorder.specs.Entries.{entries}
 use Rattle.recorder.proofs.Laws.{by-value, whole-after}
 use Rattle.recorder.proofs.steps.step.Statement.{statement}
 use Rattle.recorder.proofs.steps.step.Tie as tie
@@ -19,8 +20,8 @@ step-spec =
       p,
       whole-after s _ _ p
           (record {
-            ctrsource = length-unmapped ℕ (s .ctrsource) 128 (typed .0 .1 .0 .1);
-            ctrtarget = length-unmapped ℕ (s .ctrtarget) 128 (typed .1 .0 .1 .0 .1);
-            ctrdata = length-unmapped ℕ (s .ctrdata) 128 (typed .1 .1 .0 .1 .0 .1);
+            ctrsource = length-unmapped ℕ (s .ctrsource) entries (typed .0 .1 .0 .1);
+            ctrtarget = length-unmapped ℕ (s .ctrtarget) entries (typed .1 .0 .1 .0 .1);
+            ctrdata = length-unmapped ℕ (s .ctrdata) entries (typed .1 .1 .0 .1 .0 .1);
           }),
     )))

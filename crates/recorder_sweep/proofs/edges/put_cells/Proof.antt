@@ -7,10 +7,10 @@ use Rattle.recorder_sweep.proofs.edges.put_cells.Statement.{statement}
 use Rattle.recorder_sweep.proofs.edges.put_cells.Tie as tie
 
 abbrev Inv-loop : tie.InvT-loop
-Inv-loop out₀ at edges next₀ k₀ out next k = (k ≤ 128) × (length out ≡ length out₀)
+Inv-loop out₀ at edges next₀ k₀ out next k = (k ≤ 8) × (length out ≡ length out₀)
 
 abbrev μ-loop : tie.MeasureT-loop
-μ-loop out₀ at edges next₀ k₀ out next k = 128 - k
+μ-loop out₀ at edges next₀ k₀ out next k = 8 - k
 
 pub put-cells-spec : {M : Type 1} → statement M
 put-cells-spec =
@@ -18,6 +18,12 @@ put-cells-spec =
     (tie.spec
     Inv-loop
     μ-loop
+    (λ c. search needs)
+    (λ c κs. tt)
+    (λ c. search needs)
+    (λ c. search needs)
+    (λ c. search needs)
+    (λ c. search needs)
     (λ c. search needs)
     (λ c. search needs)
     (λ c. search needs)

@@ -1,6 +1,7 @@
 -- `trace::runs::replay` meets its contract. Assumes nothing.
 use Prim.Native.Nat.{ℕ}
 use borrow.Author.Needs.{needs, length-unmapped}
+use Rattle.recorder.specs.Entries.{entries}
 use Rattle.trace.proofs.RunLaws.{whole-after}
 use Rattle.trace.proofs.runs.replay.Statement.{statement}
 use Rattle.trace.proofs.runs.replay.Tie as tie
@@ -21,8 +22,8 @@ replay-spec =
       p,
       whole-after s _ _ _ p
           (record {
-            ctrsource = length-unmapped ℕ (s .ctrsource) 128 (typed .0 .1 .0 .1);
-            ctrtarget = length-unmapped ℕ (s .ctrtarget) 128 (typed .1 .0 .1 .0 .1);
-            ctrdata = length-unmapped ℕ (s .ctrdata) 128 (typed .1 .1 .0 .1 .0 .1);
+            ctrsource = length-unmapped ℕ (s .ctrsource) entries (typed .0 .1 .0 .1);
+            ctrtarget = length-unmapped ℕ (s .ctrtarget) entries (typed .1 .0 .1 .0 .1);
+            ctrdata = length-unmapped ℕ (s .ctrdata) entries (typed .1 .1 .0 .1 .0 .1);
           }),
     )))
