@@ -155,8 +155,9 @@ impl Registers {
         granted(old)
     }
 
-    /// SCTRCLR, as far as one entry is concerned; WRPTR and FROZEN stay.
-    pub fn sctrclr(&self, entry: &mut Entry) -> Answer {
+    /// SCTRCLR, as far as one entry is concerned. The cycle counter starts again; WRPTR and FROZEN
+    /// stay.
+    pub fn sctrclr(&mut self, entry: &mut Entry) -> Answer {
         if self.is_bad() {
             return refused(BAD_STATE);
         }
@@ -164,6 +165,7 @@ impl Registers {
             return refused(number);
         }
         *entry = Entry::default();
+        self.restart_cycles(false);
         granted(0)
     }
 

@@ -11,6 +11,7 @@
 
 pub mod access;
 pub mod classifier;
+pub mod cycles;
 pub mod digest;
 mod encode;
 pub mod expected;

@@ -37,13 +37,15 @@ pub struct Machine {
     pub entries: [Entry; ENTRIES],
 }
 
-/// A retired word; `taken` matters to branches only.
+/// A retired word; `taken` matters to branches only. Here and in traps and trap returns, `cycles`
+/// are those spent since the event before.
 #[derive(Clone, Copy, Debug, PartialEq, Eq)]
 pub struct Retired {
     pub word: u32,
     pub pc: u64,
     pub target: u64,
     pub taken: bool,
+    pub cycles: u32,
 }
 
 /// An interrupt or an exception, taken in the current mode.
@@ -54,6 +56,7 @@ pub struct Trap {
     pub cause: u64,
     pub epc: u64,
     pub handler: u64,
+    pub cycles: u32,
 }
 
 /// A return from a trap handler that runs in the current mode.
@@ -62,6 +65,7 @@ pub struct TrapReturn {
     pub target_mode: Mode,
     pub pc: u64,
     pub target: u64,
+    pub cycles: u32,
 }
 
 #[derive(Clone, Copy, Debug, PartialEq, Eq)]
@@ -120,6 +124,7 @@ impl Machine {
     fn retire(&mut self, retired: &Retired) -> u64 {
         let number = transfer_type(retired.word, retired.taken);
         let mode = self.registers.mode;
+        self.count(mode, retired.cycles);
         if number == NONE || self.registers.frozen || !self.registers.is_on(mode) {
             return NOTHING;
         }
@@ -130,7 +135,7 @@ impl Machine {
         } else if is_inhibited(control, number) {
             NOTHING
         } else {
-            self.enter(record)
+            self.enter_with_count(record)
         }
     }
 
@@ -138,6 +143,7 @@ impl Machine {
         if !is_possible_trap(self.registers.mode, trap.target_mode) {
             return refused(NOT_POSSIBLE);
         }
+        self.count(trap.target_mode, trap.cycles);
         let value = if self.registers.is_freezing(trap) {
             self.registers.frozen = true;
             FROZEN_BY_TRAP
@@ -177,6 +183,7 @@ impl Machine {
         if !is_possible_return(self.registers.mode, trap_return.target_mode) {
             return refused(NOT_POSSIBLE);
         }
+        self.count(trap_return.target_mode, trap_return.cycles);
         let value = self.enter_if_any(self.return_record(trap_return));
         self.registers.mode = trap_return.target_mode;
         granted(value)
@@ -221,8 +228,32 @@ impl Machine {
         answer
     }
 
+    /// The cycles of a possible event from the current mode, before anything is recorded or frozen:
+    /// they count if the mode is on and FROZEN is 0. Where RASEMU governs the event, nothing is
+    /// left in the counter, and the next ordinary record has CCV 0.
+    fn count(&mut self, target: Mode, cycles: u32) {
+        let registers = &mut self.registers;
+        let source = registers.mode;
+        if registers.frozen || !registers.is_on(source) {
+            return;
+        }
+        if is_emulating(registers.governing_control(source, target)) {
+            registers.restart_cycles(false);
+        } else {
+            registers.add_cycles(cycles);
+        }
+    }
+
     fn enter_if_any(&mut self, record: Option<Entry>) -> u64 {
-        record.map_or(NOTHING, |record| self.enter(record))
+        record.map_or(NOTHING, |record| self.enter_with_count(record))
+    }
+
+    /// Enters an ordinary record, which has the count since the last restart. The next one has the
+    /// count since this one.
+    fn enter_with_count(&mut self, mut record: Entry) -> u64 {
+        record.ctrdata |= self.registers.cycle_fields();
+        self.registers.restart_cycles(true);
+        self.enter(record)
     }
 
     fn enter(&mut self, record: Entry) -> u64 {
@@ -232,7 +263,8 @@ impl Machine {
         RECORDED
     }
 
-    /// A transfer of type `number` under RASEMU. The place of logical entry 0 is one below WRPTR.
+    /// A transfer of type `number` under RASEMU, where records have no count. The place of logical
+    /// entry 0 is one below WRPTR.
     fn emulate(&mut self, record: Entry, number: u8) -> u64 {
         let newest = self.registers.physical_entry(0);
         match number {
@@ -251,7 +283,7 @@ impl Machine {
     }
 }
 
-/// A valid entry. ctrdata is the type alone.
+/// A valid entry. ctrdata is the type alone, without a count.
 fn record(pc: u64, target: u64, number: u8) -> Entry {
     Entry {
         ctrsource: pc | V,

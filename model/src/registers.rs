@@ -4,6 +4,7 @@
 use std::ops::RangeInclusive;
 
 use self::Register::*;
+use crate::cycles::TOP;
 
 /// The bits that mctrctl has.
 pub const MCTRCTL_MASK: u64 = 0x0000_FF3E_0000_1B87;
@@ -29,8 +30,9 @@ const STATUS_FROZEN: u32 = 31;
 /// The bits of ctrtarget that are addresses; MISP is not there.
 const CTRTARGET_MASK: u64 = !1;
 
-/// The TYPE field of ctrdata; the other fields are not there.
-const CTRDATA_MASK: u64 = 0xF;
+/// The fields of ctrdata: CC in bits 31 to 16, CCV in bit 15 and TYPE in bits 3 to 0. Custom is not
+/// there.
+const CTRDATA_MASK: u64 = 0xFFFF_800F;
 
 /// A privilege mode with its code; V is 1 in the last two.
 #[derive(Clone, Copy, Debug, PartialEq, Eq)]
@@ -63,6 +65,10 @@ pub struct Registers {
     pub vsiselect: u64,
     pub mstateen0_ctr: bool,
     pub hstateen0_ctr: bool,
+    /// The cycles counted since the last restart.
+    pub cycles: u64,
+    /// The CCV that an ordinary record would now get.
+    pub ccv: bool,
 }
 
 /// The three words of an entry, undefined bits included.
@@ -85,6 +91,13 @@ pub(crate) enum Register {
     Sireg(u8),
     Vsiselect,
     Vsireg(u8),
+}
+
+impl Register {
+    /// Whether this is mctrctl, vsctrctl, or sctrctl, which stands for one of them.
+    fn is_control(self) -> bool {
+        matches!(self, Sctrctl | Vsctrctl | Mctrctl)
+    }
 }
 
 /// The CSR numbers that are listed. 0x154 and 0x254 are not among them.
@@ -153,10 +166,12 @@ impl Registers {
         vsiselect: 0,
         mstateen0_ctr: false,
         hstateen0_ctr: false,
+        cycles: 0,
+        ccv: false,
     };
 
     /// All fields as numbers: the mode by its code, bits as 0 and 1.
-    pub(crate) fn fields(&self) -> [u64; 10] {
+    pub(crate) fn fields(&self) -> [u64; 12] {
         [
             self.mode as u64,
             self.mctrctl,
@@ -168,6 +183,8 @@ impl Registers {
             self.vsiselect,
             self.mstateen0_ctr.into(),
             self.hstateen0_ctr.into(),
+            self.cycles,
+            self.ccv.into(),
         ]
     }
 
@@ -177,6 +194,7 @@ impl Registers {
             || self.wrptr >= self.depth()
             || self.mctrctl & !MCTRCTL_MASK != 0
             || self.vsctrctl & !SCTRCTL_MASK != 0
+            || self.cycles > TOP
     }
 
     /// How many entries are in use. Panics if the depth code is bad.
@@ -256,8 +274,12 @@ impl Registers {
         }
     }
 
-    /// Writes; `entry` is the one that the register selects, if it selects one.
+    /// Writes; `entry` is the one that the register selects, if it selects one. The cycle counter
+    /// starts again at each write of a control register, also if its value stays.
     pub(crate) fn write(&mut self, entry: &mut Entry, register: Register, value: u64) {
+        if register.is_control() {
+            self.restart_cycles(false);
+        }
         match self.meant(register) {
             Sctrctl => {
                 self.mctrctl = self.mctrctl & !SCTRCTL_MASK | value & SCTRCTL_MASK;

@@ -175,6 +175,8 @@ siselect 0x0
 vsiselect 0x0
 mstateen0.CTR 0x0
 hstateen0.CTR 0x0
+cycles 0x0
+ccv 0x1
 0 0x1000 -> 0x2000 direct call
 ";
         assert_prints("call", expected, "");

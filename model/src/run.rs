@@ -58,23 +58,24 @@ mod tests {
     use crate::expected::random_events;
     use crate::replay::{encode, Row};
 
-    /// Rows from reset, beside their answers: of every kind, some of them refused.
+    /// Rows from reset, beside their answers: of every kind, some of them refused, some with
+    /// cycles.
     const SAMPLES: [(Row, [u64; 2]); 11] = [
         // M turns M, S and U on, reads that back with an operand that says nothing, and calls.
         ([0x103, 0x34E, 7, 0], [0, 0]),
         ([0x003, 0x34E, u64::MAX, 0], [0, 7]),
-        ([0x000, 0xef, 0x1000, 0x2000], [0, 1]),
+        ([0x1234_0000_0000, 0xef, 0x1000, 0x2000], [0, 1]),
         // No such register; SCTRCLR; the host sets mstateen0.CTR.
         ([0x203, 0x999, 1, 0], [3, 0]),
         ([0x004, 0, 0, 0], [0, 0]),
         ([0x105, 0, 0, 0], [0, 0]),
         // To VU, which is off, where nothing is recorded and little is allowed.
-        ([0x302, 0, 0x3000, 0x4000], [0, 1]),
-        ([0x100, 0x63, 0x5000, 0x6000], [0, 0]),
+        ([0xFFFF_FFFF_0000_0302, 0, 0x3000, 0x4000], [0, 1]),
+        ([0x5_0000_0100, 0x63, 0x5000, 0x6000], [0, 0]),
         ([0x004, 0, 0, 0], [2, 0]),
-        ([0x302, 0, 0x7000, 0x8000], [4, 0]),
+        ([0x6_0000_0302, 0, 0x7000, 0x8000], [4, 0]),
         // An interrupt with a large cause, back to M.
-        ([0xA01, u64::MAX, 0x9000, 0xA000], [0, 1]),
+        ([0x7_0000_0A01, u64::MAX, 0x9000, 0xA000], [0, 1]),
     ];
 
     const MALFORMED: Row = [0x003, 4096, 0, 0];
@@ -93,12 +94,13 @@ mod tests {
     }
 
     /// As `used`, in each way of being bad.
-    fn bad_machines() -> [Machine; 4] {
-        let mut machines = [(); 4].map(|()| used());
+    fn bad_machines() -> [Machine; 5] {
+        let mut machines = [(); 5].map(|()| used());
         machines[0].registers.depth_code = 5;
         machines[1].registers.wrptr = 16;
         machines[2].registers.mctrctl |= 1 << 63;
         machines[3].registers.vsctrctl |= 1 << 2;
+        machines[4].registers.cycles = 1 << 27;
         machines
     }
 

@@ -52,6 +52,8 @@ fn registers(mode: Mode, enables: (u8, u8), selections: (u64, u64)) -> Registers
         vsiselect: selections.1,
         mstateen0_ctr: enables.0 == 1,
         hstateen0_ctr: enables.1 == 1,
+        cycles: 0x123,
+        ccv: true,
         ..Registers::RESET
     }
 }
@@ -72,17 +74,23 @@ fn number(start: Registers, csr: u64) -> u8 {
     numbers[0]
 }
 
-/// The number that SCTRCLR answers; the entry must be zero if it is granted and stay otherwise.
+/// The number that SCTRCLR answers; the entry and the cycle counter must be zero if it is granted
+/// and stay otherwise.
 fn sctrclr(start: Registers) -> u8 {
-    let mut entry = ENTRY;
-    let answer = start.sctrclr(&mut entry);
+    let (mut registers, mut entry) = (start, ENTRY);
+    let answer = registers.sctrclr(&mut entry);
     assert_eq!(answer.value, 0);
     let expected = if answer.number == 0 {
-        Entry::default()
+        let restarted = Registers {
+            cycles: 0,
+            ccv: false,
+            ..start
+        };
+        (restarted, Entry::default())
     } else {
-        ENTRY
+        (start, ENTRY)
     };
-    assert_eq!(entry, expected);
+    assert_eq!((registers, entry), expected);
     answer.number
 }
 
@@ -90,12 +98,13 @@ const ENABLES: [(u8, u8); 4] = [(0, 0), (1, 0), (0, 1), (1, 1)];
 
 #[test]
 fn number_5_comes_before_all_steps() {
-    let bad: [fn(&mut Registers); 5] = [
+    let bad: [fn(&mut Registers); 6] = [
         |r| r.depth_code = 5,
         |r| r.wrptr = 16,
         |r| (r.depth_code, r.wrptr) = (4, 256),
         |r| r.mctrctl = 1 << 3,
         |r| r.vsctrctl = 1 << 2,
+        |r| r.cycles = 1 << 27,
     ];
     for change in bad {
         for mode in Mode::ALL {
@@ -469,6 +478,8 @@ impl Random {
             vsiselect: 0x180 + self.below(0x200),
             mstateen0_ctr: self.bit(),
             hstateen0_ctr: self.bit(),
+            cycles: self.one_of(&[0, 1, 0x7FF_FFFF, 0x7FF_FFFF, 0x800_0000]),
+            ccv: self.bit(),
         }
     }
 

@@ -19,12 +19,13 @@ const MANY_ROWS: usize = 7_000;
 const CALL: Row = [0, 0x0000_00ef, 0x1000, 0x2000];
 
 /// Rows that are malformed: where, and how.
-const MALFORMED: [(&str, Row); 31] = [
+const MALFORMED: [(&str, Row); 37] = [
     ("kind-6", [6, 0, 0, 0]),
     ("kind-255", [255, 0, 0, 0]),
     ("kind-bits-above", [0x103_0000_0006, 0, 0, 0]),
     ("retired-bit-9", [0x200, 0xef, 0, 0]),
-    ("retired-bit-63", [1 << 63, 0xef, 0, 0]),
+    ("retired-bit-31", [1 << 31, 0xef, 0, 0]),
+    ("retired-below-cycles", [0x7_0000_0200, 0xef, 0, 0]),
     ("retired-instruction", [0, 1 << 32, 0, 0]),
     ("retired-instruction-high", [0x100, 1 << 63 | 0xef, 0, 0]),
     ("retired-both", [0x200, 1 << 32, 0, 0]),
@@ -32,21 +33,26 @@ const MALFORMED: [(&str, Row); 31] = [
     ("trap-mode-6", [0xE01, 0, 0, 0]),
     ("trap-mode-7", [0x701, 0, 0, 0]),
     ("trap-bit-12", [0x1101, 0, 0, 0]),
-    ("trap-bit-63", [1 << 63 | 1, 0, 0, 0]),
+    ("trap-bit-31", [1 << 31 | 1, 0, 0, 0]),
     ("return-mode-5", [0x502, 0, 0, 0]),
     ("return-mode-7", [0x702, 1, 0, 0]),
     ("return-bit-11", [0x802, 0, 0, 0]),
+    ("return-bit-31", [0x7_8000_0002, 0, 0, 0]),
     ("return-word-1", [0x202, 1, 0, 0]),
     ("access-bit-10", [0x403, 0x34E, 0, 0]),
+    ("access-bit-32", [1 << 32 | 0x103, 0x34E, 0, 0]),
+    ("access-bit-63", [1 << 63 | 0x103, 0x34E, 0, 0]),
     ("access-csr", [0x103, 4096, 0, 0]),
     ("access-csr-high", [0x103, 1 << 63 | 0x34E, 0, 0]),
     ("access-word-3", [0x003, 0x34E, 0, 1]),
     ("access-both", [0x003, 4096, 0, 1]),
     ("clear-bit-8", [0x104, 0, 0, 0]),
+    ("clear-bit-32", [1 << 32 | 4, 0, 0, 0]),
     ("clear-word-1", [4, 1, 0, 1]),
     ("clear-word-2", [4, 0, 1, 0]),
     ("clear-word-3", [4, 0, 0, 1 << 63]),
     ("host-bit-10", [0x405, 0, 0, 0]),
+    ("host-bit-32", [1 << 32 | 0x105, 0, 0, 0]),
     ("host-bit-63", [1 << 63 | 5, 0, 0, 0]),
     ("host-word-1", [5, 1 << 32, 0, 0]),
     ("host-word-2", [0x105, 0, 1, 0]),
@@ -126,6 +132,7 @@ fn traces() -> Vec<(String, Vec<u8>)> {
     for seed in 1..=8 {
         traces.push((format!("random-{seed}"), random_rows(seed, MANY_ROWS)));
     }
+    traces.push(("cycles".to_string(), bytes_of(rows_with_cycles())));
     for (name, row) in MALFORMED {
         traces.push((name.to_string(), damaged(few, row)));
     }
@@ -140,6 +147,17 @@ fn traces() -> Vec<(String, Vec<u8>)> {
 
 fn random_rows(seed: u64, count: usize) -> Vec<u8> {
     bytes_of(random_events(seed).take(count).map(encode))
+}
+
+/// Calls in M at the largest depth: for each bit that cycles have, one with that bit and one with
+/// all bits up to it.
+fn rows_with_cycles() -> impl Iterator<Item = Row> {
+    let [_, word, pc, target] = CALL;
+    let cycles = (0..32).flat_map(|place| [1 << place, (2 << place) - 1]);
+    let calls = cycles.map(move |cycles: u64| [cycles << 32, word, pc, target]);
+    [[0x103, 0x15F, 7, 0], [0x103, 0x34E, 4, 0]]
+        .into_iter()
+        .chain(calls)
 }
 
 /// A sample trace behind the setup that `replay` is tested with.

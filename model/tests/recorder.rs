@@ -1,5 +1,5 @@
 //! What events make of the whole recorder: published cases, slips that are easily made, and the
-//! rules one by one (docs/RULES.md).
+//! rules one by one (docs/RULES.md). No cycles are spent here.
 
 use std::iter;
 
@@ -56,6 +56,7 @@ fn retired(word: u32, taken: bool) -> Event {
         pc: PC,
         target: TARGET,
         taken,
+        cycles: 0,
     })
 }
 
@@ -66,6 +67,7 @@ fn trap(target_mode: Mode, is_interrupt: bool, cause: u64) -> Event {
         cause,
         epc: PC,
         handler: TARGET,
+        cycles: 0,
     })
 }
 
@@ -82,6 +84,7 @@ fn trap_return(target_mode: Mode) -> Event {
         target_mode,
         pc: PC,
         target: TARGET,
+        cycles: 0,
     })
 }
 
@@ -175,9 +178,17 @@ fn outcome(start: &Machine, event: Event) -> (u64, Machine) {
     (value, after)
 }
 
-/// The state after a record in `start`, with the mode that it leads to.
+/// The state after an ordinary record in `start`, with the mode that it leads to. The next one has
+/// CCV 1.
 fn recorded(start: &Machine, mode: Mode, record: Entry) -> (u64, Machine) {
-    let mut after = in_mode(start, mode);
+    let (value, mut after) = pushed(&in_mode(start, mode), record);
+    after.registers.ccv = true;
+    (value, after)
+}
+
+/// The state after a record in `start` under RASEMU.
+fn pushed(start: &Machine, record: Entry) -> (u64, Machine) {
+    let mut after = start.clone();
     let wrptr = start.registers.wrptr;
     after.entries[wrptr as usize] = record;
     after.registers.wrptr = if wrptr + 1 == start.registers.depth() {
@@ -249,6 +260,7 @@ fn wrptr_wraps_after_the_last_entry() {
         let mut expected = start.clone();
         expected.entries[last] = entry(CTRSOURCE, CTRTARGET, 9);
         expected.registers.wrptr = 0;
+        expected.registers.ccv = true;
         assert_eq!(expected.registers.physical_entry(0), last as u64);
         let result = outcome(&start, retired(DIRECT_CALL, true));
         assert_eq!(result, (1, expected));
@@ -365,7 +377,7 @@ fn jalr_x1_x1_is_no_swap() {
     for word in [0x0000_80E7, 0x0002_82E7] {
         let mut start = machine(S, &[S]);
         *control(&mut start, S) |= RASEMU;
-        let expected = recorded(&start, S, entry(CTRSOURCE, CTRTARGET, 8));
+        let expected = pushed(&start, entry(CTRSOURCE, CTRTARGET, 8));
         assert_eq!(outcome(&start, retired(word, true)), expected);
     }
 }
@@ -703,7 +715,7 @@ fn emulated(start: &Machine, record: Entry) -> (u64, Machine) {
     let mode = start.registers.mode;
     let mut after = start.clone();
     match record.ctrdata {
-        8 | 9 => recorded(start, mode, record),
+        8 | 9 => pushed(start, record),
         12 => {
             after.entries[3] = record;
             (3, after)
@@ -961,6 +973,7 @@ fn at_depth_256_the_newest_256_records_are_read() {
             pc: 0x1000 + 4 * call,
             target: 0x8000 + 4 * call,
             taken: true,
+            cycles: 0,
         });
         let (value, after) = outcome(&machine, event);
         assert_eq!(value, 1);
@@ -972,7 +985,7 @@ fn at_depth_256_the_newest_256_records_are_read() {
         let call = 299 - logical;
         assert_eq!(read(&mut machine, 0x151), 0x1001 + 4 * call);
         assert_eq!(read(&mut machine, 0x152), 0x8000 + 4 * call);
-        assert_eq!(read(&mut machine, 0x153), 9);
+        assert_eq!(read(&mut machine, 0x153), 0x8009);
     }
 }
 

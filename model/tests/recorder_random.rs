@@ -1,6 +1,9 @@
 //! Random events in random states: what holds of every event (docs/RULES.md).
 
+use std::mem;
+
 use model::access::{Access, Operation};
+use model::cycles::decoded;
 use model::digest::{xorshift64, SEED};
 use model::recorder::{Event, Machine, Retired, Trap, TrapReturn};
 use model::registers::{Entry, Mode, Registers, MCTRCTL_MASK, SCTRCTL_MASK};
@@ -9,6 +12,9 @@ use Mode::*;
 
 /// EXCINH to TRETINH, TKBRINH, INDCALLINH to DIRLJMPINH.
 const ALL_INHIBITS: u64 = 0xFF2E << 32;
+
+/// Where the cycle counter stays.
+const TOP: u64 = 0x7FF_FFFF;
 
 /// A branch, jumps of types 10, 11, 14 and 15, and calls, returns and swaps.
 const TRANSFERS: [u32; 9] = [
@@ -44,6 +50,20 @@ impl Random {
         list[self.below(list.len() as u64) as usize]
     }
 
+    /// From 0 to the top, often near it, and sometimes above it.
+    fn counter(&mut self) -> u64 {
+        match self.below(32) {
+            0 => self.one_of(&[TOP + 1, TOP + 2, 1 << 32, u64::MAX]),
+            1..=4 => TOP - self.below(8),
+            _ => self.below(TOP + 1) >> self.below(27),
+        }
+    }
+
+    /// Few or many.
+    fn cycles(&mut self) -> u32 {
+        self.word() as u32 >> self.below(32)
+    }
+
     /// Bad in about one of four cases.
     fn registers(&mut self) -> Registers {
         let stray = self.word() & self.one_of(&[0, 0, 0, 0, 0, 0, 0, u64::MAX]);
@@ -61,6 +81,8 @@ impl Random {
             vsiselect: 0x1F0 + self.below(0x120),
             mstateen0_ctr: self.bit(),
             hstateen0_ctr: self.bit(),
+            cycles: self.counter(),
+            ccv: self.bit(),
         }
     }
 
@@ -87,6 +109,7 @@ impl Random {
             pc: self.word(),
             target: self.word(),
             taken: self.bit(),
+            cycles: self.cycles(),
         })
     }
 
@@ -112,11 +135,13 @@ impl Random {
                 cause: self.one_of(&[3, 13, 5, 8]),
                 epc: self.word(),
                 handler: self.word(),
+                cycles: self.cycles(),
             }),
             6 | 7 => Event::TrapReturn(TrapReturn {
                 target_mode: self.one_of(&Mode::ALL),
                 pc: self.word(),
                 target: self.word(),
+                cycles: self.cycles(),
             }),
             8 => self.access(),
             _ if self.bit() => Event::Sctrclr,
@@ -194,8 +219,53 @@ fn mode_after(before: Mode, event: Event) -> Mode {
     }
 }
 
-/// A record sets V, clears bit 0 of ctrtarget and holds a type; a pop clears V; a swap leaves
-/// WRPTR. All other entries and registers stay, but for the mode.
+/// The cycles that the event has, if it has any.
+fn cycles_of(event: &mut Event) -> Option<&mut u32> {
+    match event {
+        Event::Retired(retired) => Some(&mut retired.cycles),
+        Event::Trap(trap) => Some(&mut trap.cycles),
+        Event::TrapReturn(trap_return) => Some(&mut trap_return.cycles),
+        _ => None,
+    }
+}
+
+/// Whether the cycles of a transfer count.
+fn is_counted(registers: &Registers) -> bool {
+    is_on(registers, registers.mode) && !registers.frozen
+}
+
+/// Whether RASEMU governs a transfer. With V=1 before or after, it is that of vsctrctl.
+fn is_emulated(registers: &Registers, event: Event) -> bool {
+    let modes = [registers.mode, mode_after(registers.mode, event)];
+    let control = if modes.iter().any(|mode| mode.is_virtual()) {
+        registers.vsctrctl
+    } else {
+        registers.mctrctl
+    };
+    control >> 7 & 1 == 1
+}
+
+/// The counter with the cycles of a transfer, if they count.
+fn counter_at(registers: &Registers, mut event: Event) -> u64 {
+    let cycles = cycles_of(&mut event).map_or(0, |cycles| u64::from(*cycles));
+    if is_counted(registers) {
+        TOP.min(registers.cycles + cycles)
+    } else {
+        registers.cycles
+    }
+}
+
+/// CC and CCV in ctrdata, by the index of the counter's top bit.
+fn cycle_fields(counter: u64, ccv: bool) -> u64 {
+    let index = counter.checked_ilog2().unwrap_or(0);
+    let cce = index.saturating_sub(11);
+    let ccm = counter >> cce.saturating_sub(1) & 0xFFF;
+    u64::from(cce) << 28 | ccm << 16 | u64::from(ccv) << 15
+}
+
+/// A record sets V, clears bit 0 of ctrtarget and holds a type, beside the count if RASEMU doesn't
+/// govern it; a pop clears V; a swap leaves WRPTR. All other entries and registers stay, but for
+/// the mode, the cycle counter and the next CCV.
 #[test]
 fn values_tell_what_has_changed() {
     let mut random = Random(SEED);
@@ -210,13 +280,26 @@ fn values_tell_what_has_changed() {
         let depth = before.registers.depth();
         let wrptr = before.registers.wrptr;
         let below = (wrptr + depth - 1) % depth;
+        let counter = counter_at(&before.registers, event);
+        let is_emulated = is_emulated(&before.registers, event);
+        let fields = if is_emulated {
+            0
+        } else {
+            cycle_fields(counter, before.registers.ccv)
+        };
         let mut expected = before.clone();
         expected.registers.mode = mode_after(before.registers.mode, event);
+        expected.registers.cycles = counter;
+        if is_emulated && is_counted(&before.registers) {
+            (expected.registers.cycles, expected.registers.ccv) = (0, false);
+        } else if answer.value == 1 {
+            (expected.registers.cycles, expected.registers.ccv) = (0, true);
+        }
         match answer.value {
             1 => {
                 expected.registers.wrptr = (wrptr + 1) % depth;
                 expected.entries[wrptr as usize] = after.entries[wrptr as usize];
-                assert!(is_record(&after.entries[wrptr as usize]));
+                assert!(is_record(&after.entries[wrptr as usize], fields));
             }
             2 => {
                 expected.registers.wrptr = below;
@@ -224,7 +307,7 @@ fn values_tell_what_has_changed() {
             }
             3 => {
                 expected.entries[below as usize] = after.entries[below as usize];
-                assert!(is_record(&after.entries[below as usize]));
+                assert!(is_record(&after.entries[below as usize], fields));
             }
             4 => expected.registers.frozen = true,
             _ => {}
@@ -235,8 +318,70 @@ fn values_tell_what_has_changed() {
     assert!(counts.iter().all(|count| *count > 500), "{counts:?}");
 }
 
-fn is_record(entry: &Entry) -> bool {
-    entry.ctrsource & 1 == 1 && entry.ctrtarget & 1 == 0 && matches!(entry.ctrdata, 1..=5 | 8..=15)
+/// `fields` are those of ctrdata beside TYPE.
+fn is_record(entry: &Entry, fields: u64) -> bool {
+    entry.ctrsource & 1 == 1
+        && entry.ctrtarget & 1 == 0
+        && entry.ctrdata & !0xF == fields
+        && matches!(entry.ctrdata & 0xF, 1..=5 | 8..=15)
+}
+
+/// What is decoded of an ordinary record is at most the counter, and short of it by less than a
+/// step.
+#[test]
+fn decoded_counts_are_near_the_counter() {
+    let mut random = Random(SEED);
+    let mut counts = [0; 16];
+    for _ in 0..ROUNDS {
+        let (before, event) = (random.machine(), random.event());
+        let mut after = before.clone();
+        let answer = after.step(event);
+        let is_record = answer.number == 0 && is_transfer(event) && answer.value == 1;
+        if !is_record || is_emulated(&before.registers, event) {
+            continue;
+        }
+        let counter = counter_at(&before.registers, event);
+        let ctrdata = after.entries[before.registers.wrptr as usize].ctrdata;
+        let count = decoded(ctrdata);
+        assert!(count <= counter);
+        match ctrdata >> 28 {
+            0 => assert_eq!(count, counter),
+            cce => assert!(counter - count < 1 << (cce - 1)),
+        }
+        counts[(ctrdata >> 28) as usize] += 1;
+    }
+    assert!(counts.iter().all(|count| *count > 50), "{counts:?}");
+}
+
+/// Of the other events, SCTRCLR and all accesses to control registers but reads, if they are
+/// granted.
+#[test]
+fn the_counter_restarts_at_sctrclr_and_at_control_writes() {
+    let mut random = Random(SEED);
+    let mut counts = [0; 2];
+    for _ in 0..ROUNDS {
+        let (before, event) = (random.machine(), random.event());
+        if is_transfer(event) {
+            continue;
+        }
+        let mut after = before.clone();
+        let answer = after.step(event);
+        let is_restarting = match event {
+            Event::Access(access) => {
+                access.operation != Operation::Read && matches!(access.csr, 0x14E | 0x24E | 0x34E)
+            }
+            event => event == Event::Sctrclr,
+        };
+        let restarts = is_restarting && answer.number == 0;
+        let expected = if restarts {
+            (0, false)
+        } else {
+            (before.registers.cycles, before.registers.ccv)
+        };
+        assert_eq!((after.registers.cycles, after.registers.ccv), expected);
+        counts[usize::from(restarts)] += 1;
+    }
+    assert!(counts.iter().all(|count| *count > 1_000), "{counts:?}");
 }
 
 /// Also in bad states, which answer 5.
@@ -258,11 +403,11 @@ fn words_retired_in_a_mode_that_is_off_change_nothing() {
 }
 
 /// Traps and returns, possible or not, in good states and bad ones: another address on the side of
-/// a mode that is off gives the same answer and the same state.
+/// a mode that is off, and other cycles spent in it, give the same answer and the same state.
 #[test]
-fn addresses_on_the_side_of_an_off_mode_never_show() {
+fn addresses_on_the_side_of_an_off_mode_and_its_cycles_never_show() {
     let mut random = Random(SEED);
-    let mut count = 0;
+    let (mut count, mut differing) = (0, 0);
     for _ in 0..ROUNDS {
         let (before, event) = (random.machine(), random.event());
         if !matches!(event, Event::Trap(_) | Event::TrapReturn(_)) {
@@ -281,19 +426,24 @@ fn addresses_on_the_side_of_an_off_mode_never_show() {
             let address = random.word();
             other = with_address(other, *side, |_| address);
         }
+        if !is_on(&before.registers, source) {
+            let cycles = cycles_of(&mut other).expect("a trap or a return");
+            let mine = mem::replace(cycles, random.cycles());
+            differing += u32::from(*cycles != mine);
+        }
         let (mut one, mut two) = (before.clone(), before);
         assert_eq!(one.step(event), two.step(other));
         assert_eq!(one, two);
         count += u32::from(other != event);
     }
-    assert!(count > ROUNDS / 4);
+    assert!(count > ROUNDS / 4 && differing > ROUNDS / 8);
 }
 
 /// RASEMU, the inhibits and NTBREN.
 const GOVERNING_FIELDS: u64 = 1 << 7 | ALL_INHIBITS | 1 << 36;
 
-/// Where these fields differ in the register that doesn't govern a transfer, it does the same; in the
-/// one that governs, often not. With V=1 before or after, that is vsctrctl.
+/// Where these fields differ in the register that doesn't govern a transfer, it does the same; in
+/// the one that governs, often not. With V=1 before or after, that is vsctrctl.
 #[test]
 fn one_register_governs_a_transfer() {
     let mut random = Random(SEED);

@@ -308,7 +308,7 @@ const fn entry(ctrsource: u64, ctrtarget: u64, ctrdata: u64) -> Entry {
 const FULL: Entry = entry(u64::MAX, u64::MAX, u64::MAX);
 
 /// All bits are set but undefined ones.
-const DEFINED: Entry = entry(u64::MAX, !1, 0xF);
+const DEFINED: Entry = entry(u64::MAX, !1, 0xFFFF_800F);
 
 /// Logical entry 0 is selected, whatever the mode and the ireg.
 fn selecting(mode: Mode) -> Registers {
@@ -323,7 +323,7 @@ fn selecting(mode: Mode) -> Registers {
 const IREGS: [(u64, Entry); 6] = [
     (u64::MAX, entry(0, u64::MAX, u64::MAX)),
     (!1, entry(u64::MAX, 0, u64::MAX)),
-    (0xF, entry(u64::MAX, u64::MAX, 0)),
+    (0xFFFF_800F, entry(u64::MAX, u64::MAX, 0)),
     (0, FULL),
     (0, FULL),
     (0, FULL),
@@ -343,6 +343,23 @@ fn iregs_reach_the_words_of_an_entry() {
             assert_eq!((old, entry), (reading, zeroed), "{mode:?} {csr:#x}");
             assert_eq!(registers, selecting(mode));
         }
+    }
+}
+
+/// CCE, CCM, CCV and TYPE are written and read, and no other bit is.
+#[test]
+fn each_bit_of_ctrdata_is_kept_or_not() {
+    for bit in 0..64 {
+        let mut registers = selecting(Mode::S);
+        let mut entry = Entry::default();
+        let write = Operation::Write;
+        value(&mut registers, &mut entry, write, SIREG[2], 1 << bit);
+        let is_kept = matches!(bit, 0..=3 | 15 | 16..=31);
+        let expected = u64::from(is_kept) << bit;
+        assert_eq!(entry.ctrdata, expected, "bit {bit}");
+        entry.ctrdata = 1 << bit;
+        let read = value(&mut registers, &mut entry, Operation::Read, SIREG[2], 0);
+        assert_eq!((read, entry.ctrdata), (expected, 1 << bit), "bit {bit}");
     }
 }
 
@@ -454,6 +471,10 @@ fn bad_states() {
     assert!(!bad(|r| r.vsctrctl = 0x0000_FF3E_0000_1983));
     assert!(!bad(|r| (r.siselect, r.vsiselect) = (u64::MAX, u64::MAX)));
     assert!(!bad(|r| r.mstateen0_ctr = false));
+    assert!(!bad(|r| (r.cycles, r.ccv) = ((1 << 27) - 1, true)));
+    assert!(bad(|r| r.cycles = 1 << 27));
+    assert!(bad(|r| r.cycles = 1 << 32));
+    assert!(bad(|r| r.cycles = u64::MAX));
 }
 
 #[test]
@@ -502,6 +523,8 @@ fn random_state(next: &mut impl FnMut() -> u64) -> (Registers, Entry) {
         vsiselect: 0x1F0 + next() % 0x120,
         mstateen0_ctr: next() % 4 < 3,
         hstateen0_ctr: next() % 4 < 3,
+        cycles: next() % (1 << 27),
+        ccv: next() % 2 == 1,
     };
     (registers, entry(next(), next(), next()))
 }

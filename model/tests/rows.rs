@@ -17,6 +17,7 @@ const CALL: Retired = Retired {
     pc: 0x1000,
     target: 0x2000,
     taken: false,
+    cycles: 0,
 };
 
 const EXCEPTION: Trap = Trap {
@@ -25,6 +26,14 @@ const EXCEPTION: Trap = Trap {
     cause: u64::MAX,
     epc: 0x3000,
     handler: 0x4000,
+    cycles: 0,
+};
+
+const RETURN: TrapReturn = TrapReturn {
+    target_mode: Mode::VU,
+    pc: 0x5000,
+    target: 0x6000,
+    cycles: 0,
 };
 
 /// Rows written out by hand, beside their events.
@@ -38,17 +47,12 @@ fn samples() -> Vec<(Row, Event)> {
         is_interrupt: true,
         ..EXCEPTION
     };
-    let trap_return = TrapReturn {
-        target_mode: Mode::VU,
-        pc: 0x5000,
-        target: 0x6000,
-    };
     vec![
         ([0x000, 0xef, 0x1000, 0x2000], Event::Retired(CALL)),
         ([0x100, 0xef, 0x1000, 0x2000], Event::Retired(taken)),
         ([0x101, u64::MAX, 0x3000, 0x4000], Event::Trap(EXCEPTION)),
         ([0xC01, u64::MAX, 0x3000, 0x4000], Event::Trap(interrupt)),
-        ([0x302, 0, 0x5000, 0x6000], Event::TrapReturn(trap_return)),
+        ([0x302, 0, 0x5000, 0x6000], Event::TrapReturn(RETURN)),
         ([0x003, 0x34E, u64::MAX, 0], access_event(Operation::Read)),
         ([0x103, 0x34E, u64::MAX, 0], access_event(Operation::Write)),
         ([0x203, 0x34E, u64::MAX, 0], access_event(Operation::Set)),
@@ -84,6 +88,34 @@ fn rows_and_events_stand_for_each_other() {
     }
 }
 
+/// Beside the other fields of word 0, with each bit that cycles have.
+#[test]
+fn cycles_are_the_upper_half_of_word_0() {
+    let powers = (0..32).map(|place| 1 << place);
+    for cycles in powers.chain([0, 0x1234_5678, u32::MAX]) {
+        let retired = Event::Retired(Retired {
+            taken: true,
+            cycles,
+            ..CALL
+        });
+        let trap = Event::Trap(Trap {
+            is_interrupt: true,
+            cycles,
+            ..EXCEPTION
+        });
+        let trap_return = Event::TrapReturn(TrapReturn { cycles, ..RETURN });
+        let upper = u64::from(cycles) << 32;
+        for (row, event) in [
+            ([upper | 0x100, 0xef, 0x1000, 0x2000], retired),
+            ([upper | 0x901, u64::MAX, 0x3000, 0x4000], trap),
+            ([upper | 0x302, 0, 0x5000, 0x6000], trap_return),
+        ] {
+            assert_eq!(decode(row), Ok(event));
+            assert_eq!(encode(event), row);
+        }
+    }
+}
+
 #[test]
 fn modes_go_by_their_codes() {
     for (code, mode) in (0..).zip([Mode::U, Mode::S, Mode::M, Mode::VU, Mode::VS]) {
@@ -109,26 +141,39 @@ fn there_are_no_other_mode_codes() {
     for code in 5..=7 {
         for (kind, fields) in [(TRAP, code), (TRAP, code | 8), (TRAP_RETURN, code)] {
             assert_eq!(decode([kind | fields << 8, 0, 0, 0]), Err(0));
+            assert_eq!(decode([kind | fields << 8 | 1 << 32, 0, 0, 0]), Err(0));
         }
     }
 }
 
-/// Word 0 of each kind has as many bits above the kind as are given here.
+/// Word 0 of each kind has as many bits above the kind as are given here. Three kinds have cycles
+/// from bit 32 up.
 #[test]
 fn there_are_no_other_bits_in_word_0() {
-    for (kind, bits) in [
-        (RETIRED, 1),
-        (TRAP, 4),
-        (TRAP_RETURN, 3),
-        (ACCESS, 2),
-        (SCTRCLR, 0),
-        (HOST, 2),
+    for (kind, bits, end) in [
+        (RETIRED, 1, 32),
+        (TRAP, 4, 32),
+        (TRAP_RETURN, 3, 32),
+        (ACCESS, 2, 64),
+        (SCTRCLR, 0, 64),
+        (HOST, 2, 64),
     ] {
-        for place in 8 + bits..64 {
+        for place in 8 + bits..end {
             assert_eq!(decode([kind | 1 << place, 0, 0, 0]), Err(0), "bit {place}");
         }
         assert!(decode([kind, 0, 0, 0]).is_ok());
     }
+}
+
+/// Nor do cycles make up for what is wrong below them.
+#[test]
+fn cycles_have_no_part_in_the_other_rules() {
+    let cycles = 0xFFFF_FFFF << 32;
+    for head in [0x200, 1 << 31, 0x1001, 1 << 31 | 1, 0x802, 1 << 31 | 2, 6] {
+        assert_eq!(decode([cycles | head, 0, 0, 0]), Err(0), "{head:#x}");
+    }
+    assert_eq!(decode([cycles | RETIRED, 1 << 32, 0, 0]), Err(1));
+    assert_eq!(decode([cycles | TRAP_RETURN, 1, 0, 0]), Err(1));
 }
 
 #[test]

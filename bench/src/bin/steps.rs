@@ -7,6 +7,9 @@ mod access;
 #[path = "replay_rust/classifier.rs"]
 mod classifier;
 #[allow(dead_code)]
+#[path = "replay_rust/cycles.rs"]
+mod cycles;
+#[allow(dead_code)]
 #[path = "replay_rust/recorder.rs"]
 mod recorder;
 
@@ -110,7 +113,7 @@ fn rust_round() -> u64 {
     }
     let mut digest = 0;
     for i in 0..CALLS {
-        let value: Value = recorder.retire(JAL, 0, i << 2, i << 3);
+        let value: Value = recorder.retire(JAL, 0, i << 2, i << 3, 0);
         digest = extended(digest, [0, value as u64]);
     }
     with_state(digest, &recorder)
@@ -131,6 +134,8 @@ fn with_state(digest: u64, recorder: &Recorder) -> u64 {
         r.vsiselect,
         r.mstateen0_ctr.into(),
         r.hstateen0_ctr.into(),
+        r.counter,
+        r.ccv.into(),
     ];
     let words = r.entries.iter().flat_map(|e| [e.source, e.target, e.data]);
     extended(extended(digest, fields), words)

@@ -13,7 +13,7 @@ use Rattle.bits.proofs.Cases.{Known, known}
 use Rattle.bits.proofs.Laws.{keep-keep, keep-joined, keep-of-joined}
 use Rattle.machine.specs.Answers.{numberOf, isAccepted, refused, accepted, acceptedClear}
 use Rattle.machine.specs.Controls.{mctrctlMask, sctrctlMask, machineMask}
-use Rattle.machine.specs.Entries.{definedOf}
+use Rattle.machine.specs.Entries.{definedOf, ctrdataMask}
 use Rattle.machine.specs.Depths.{topCode, depthOf}
 use Rattle.machine.specs.Good.{goodOf}
 use Rattle.machine.proofs.DepthLaws.{depth-pos, wrapped-lt}
@@ -29,6 +29,7 @@ use Rattle.machine.specs.declared.Verdict.{Verdict}
 use Rattle.machine.specs.declared.Verdict.the-variants.{Accepted, IllegalInstruction, VirtualInstruction, NoSuchRegister, ChangeNotPossible, BadState}
 use Rattle.csr.specs.Numbers.{registerOf, csrIn}
 use Rattle.csr.specs.Steps.{factsOf, sctrclrFacts, refusalOf}
+use Rattle.csr.specs.declared.Facts.{Facts}
 use Rattle.csr.specs.declared.View.{View}
 use Rattle.csr.specs.declared.View.the-variants.{Machine, Supervisor, Guest}
 use Rattle.csr.specs.declared.Csr.{Csr}
@@ -36,7 +37,8 @@ use Rattle.csr.specs.declared.Csr.the-variants.{Control, Select, Ireg, Depth, S
 use Rattle.access.specs.Readings.{statusOf, storedOf, wordOf, isEntry, entryReading, controlReading, readingOf}
 use Rattle.access.specs.Writes.{controlWritten, selectWritten, depthWritten, statusWritten, registersWritten, withStored, withWord, entryWritten, effectWritten}
 use Rattle.access.specs.Accesses.{isRead, operandOf, writeOf, operatedOf, grantedOf, unlessRefused, accessTo, accessOf, sctrclrOf, hostOf}
-use Rattle.access.specs.Laws.{Unchanged, entryAfter, legalEntry, legalOf, Laws, OtherWords}
+use Rattle.access.specs.Laws.{Unchanged, entryAfter, legalEntry, legalOf, Laws, OtherWords, Restarts}
+use Rattle.machine.specs.Regs.{withCycles, noCycles}
 
 past : (k : ℕ) → k ≢ 0 → k ≢ 1 → k ≢ 2 → 3 ≤ k
 past k a b c = omega arith
@@ -91,7 +93,7 @@ access-number r old a =
 
 clear-number : (r : Registers) → sctrclrOf r .number ≡ numberOf (refusalOf r sctrclrFacts)
 unfolding sctrclrOf
-clear-number r = unless-number (refusalOf r sctrclrFacts) r (acceptedClear r) refl
+clear-number r = unless-number (refusalOf r sctrclrFacts) r (acceptedClear (withCycles r noCycles)) refl
 
 refused-access : (r : Registers) (old : Entry) (a : CsrAccess) → (accessOf r old a .number ≡ 0 → ⊥) → Unchanged r (accessOf r old a)
 unfolding accessOf accessTo
@@ -102,7 +104,7 @@ refused-access r old a =
 
 refused-clear : (r : Registers) → (sctrclrOf r .number ≡ 0 → ⊥) → Unchanged r (sctrclrOf r)
 unfolding sctrclrOf
-refused-clear r = unless (refusalOf r sctrclrFacts) r (acceptedClear r) refl
+refused-clear r = unless (refusalOf r sctrclrFacts) r (acceptedClear (withCycles r noCycles)) refl
 
 -- a word that was just written reads as its defined bits; a place that takes no write reads 0
 module _ (old : Entry) (k x : ℕ) where
@@ -111,7 +113,7 @@ module _ (old : Entry) (k x : ℕ) where
   unfolding wordOf storedOf withWord withStored definedOf
   stored-word (inl a) b c = simp a
   stored-word (inr a) (inl b) c = simp b (omega arith)
-  stored-word (inr a) (inr b) (inl c) = simp c (omega arith)
+  stored-word (inr a) (inr b) (inl c) = simp c (keep-keep ctrdataMask x)
   stored-word (inr a) (inr b) (inr c) =
       simp (a, b, c, le-ltb k 3 (past k (eqb-false k 0 a) (eqb-false k 1 b) (eqb-false k 2 c)))
 
@@ -140,21 +142,35 @@ write-read r old Depth x = refl
 write-read r old Status x = rw (status-wrptr (x % 256) (r .buffer .code))
 write-read r old Unlisted x = refl
 
+-- what starts the cycle counter again
+pub restarts : Restarts
+unfolding registersWritten
+restarts = record { control = (λ r v x. refl); other = other }
+  where
+    other : (r : Registers) (g : Csr) (x : ℕ) → ((v : View) → g ≡ Control v → ⊥) → registersWritten r g x .cycles ≡ r .cycles
+    other r (Control v) x h = absurd (h v refl)
+    other r (Select v) x h = refl
+    other r (Ireg v k) x h = refl
+    other r Depth x h = refl
+    other r Status x h = refl
+    other r Unlisted x h = refl
+
 -- number 5 after a write, by the parts of a state free of it
 good-write : (r : Registers) (g : Csr) (x : ℕ) → Good r → Good (registersWritten r g x)
 unfolding registersWritten controlWritten depthWritten statusWritten
 good-write r (Control Machine) x q =
-    record { code = q .code; pointer = q .pointer; control = eq-eqb _ _ (keep-keep mctrctlMask x); guest = q .guest }
+    record { code = q .code; pointer = q .pointer; control = eq-eqb _ _ (keep-keep mctrctlMask x); guest = q .guest; counter = refl }
 good-write r (Control Supervisor) x q =
     record {
       code = q .code;
       pointer = q .pointer;
       control = eq-eqb _ _ (keep-of-joined mctrctlMask sctrctlMask machineMask x (r .controls .mctrctl) shown kept);
       guest = q .guest;
+      counter = refl;
     }
 good-write r (Control Guest) x q =
-    record { code = q .code; pointer = q .pointer; control = q .control; guest = eq-eqb _ _ (keep-keep sctrctlMask x) }
-good-write r (Select v) x q = record { code = q .code; pointer = q .pointer; control = q .control; guest = q .guest }
+    record { code = q .code; pointer = q .pointer; control = q .control; guest = eq-eqb _ _ (keep-keep sctrctlMask x); counter = refl }
+good-write r (Select v) x q = record { code = q .code; pointer = q .pointer; control = q .control; guest = q .guest; counter = q .counter }
 good-write r (Ireg v k) x q = q
 good-write r Depth x q =
     record {
@@ -162,6 +178,7 @@ good-write r Depth x q =
       pointer = lt-ltb _ _ (mod-lt (r .buffer .wrptr) (depth-pos (min (x % 8) topCode)));
       control = q .control;
       guest = q .guest;
+      counter = q .counter;
     }
 good-write r Status x q =
     record {
@@ -169,6 +186,7 @@ good-write r Status x q =
       pointer = lt-ltb _ _ (mod-lt (x % 256) (depth-pos (r .buffer .code)));
       control = q .control;
       guest = q .guest;
+      counter = q .counter;
     }
 good-write r Unlisted x q = q
 
@@ -198,7 +216,10 @@ good-access r old a h =
 
 good-clear : (r : Registers) → goodOf r ≡ true → goodOf (sctrclrOf r .registers) ≡ true
 unfolding sctrclrOf
-good-clear r h = let q = parts r h in whole _ (good-unless (refusalOf r sctrclrFacts) r (acceptedClear r) q q)
+good-clear r h =
+    let q = parts r h in
+    let p : Good (withCycles r noCycles) = record { code = q .code; pointer = q .pointer; control = q .control; guest = q .guest; counter = refl } in
+    whole _ (good-unless (refusalOf r sctrclrFacts) r (acceptedClear (withCycles r noCycles)) q p)
 
 good-host : (r : Registers) (e : Enables) → goodOf r ≡ true → goodOf (hostOf r e .registers) ≡ true
 unfolding hostOf goodOf
@@ -221,3 +242,9 @@ pub other-words : OtherWords
 unfolding withWord withStored
 other-words =
     record { source = (λ e x. (refl, refl)); target = (λ e x. (refl, refl)); type = (λ e x. (refl, refl)) }
+
+-- an access, put together from what its calls give
+pub registered : (r : Registers) (old : Entry) (g m : Csr) (o : Operation) (x : ℕ) (f : Facts) (v : Verdict) (d : Decision)
+    → f ≡ factsOf r g → v ≡ refusalOf r f → m ≡ csrIn (r .mode) g → d ≡ unlessRefused v r (grantedOf r old m o x) → d ≡ accessTo r old g o x
+unfolding accessTo
+registered r old g m o x f v d p q u h = rw (← p, ← q, ← u) h

@@ -4,7 +4,7 @@ use mathlib.Core.Bool.{Bool, true, false}
 use Rattle.bits.specs.Choice.{if_then_else_}
 use Rattle.bits.specs.Words.{joined, without}
 use Rattle.machine.specs.Answers.{numberOf, isAccepted, refused, accepted, acceptedClear}
-use Rattle.machine.specs.Regs.{withEnables}
+use Rattle.machine.specs.Regs.{withEnables, withCycles, noCycles}
 use Rattle.machine.specs.Depths.{physicalOf}
 use Rattle.machine.specs.declared.CsrAccess.{CsrAccess}
 use Rattle.machine.specs.declared.Decision.{Decision}
@@ -63,9 +63,9 @@ unfoldable pub accessFocus : Registers → ℕ → ℕ
 accessFocus r number =
     physicalOf (r .buffer .code) (r .buffer .wrptr) (selectionOf (r .selects) (csrIn (r .mode) (registerOf number)) % 256)
 
--- SCTRCLR zeroes all entry words; WRPTR and FROZEN stay
+-- SCTRCLR zeroes all entry words, and starts the cycle counter again; WRPTR and FROZEN stay
 unfoldable pub sctrclrOf : Registers → Decision
-sctrclrOf r = unlessRefused (refusalOf r sctrclrFacts) r (acceptedClear r)
+sctrclrOf r = unlessRefused (refusalOf r sctrclrFacts) r (acceptedClear (withCycles r noCycles))
 
 -- the host sets the two state-enable bits
 unfoldable pub hostOf : Registers → Enables → Decision

@@ -10,6 +10,7 @@ use Rattle.machine.specs.Controls.{mctrctlMask, sctrctlMask}
 use Rattle.machine.specs.Entries.{definedOf}
 use Rattle.machine.specs.Depths.{topCode, depthOf}
 use Rattle.machine.specs.Good.{goodOf}
+use Rattle.machine.specs.Regs.{noCycles}
 use Rattle.machine.specs.declared.CsrAccess.{CsrAccess}
 use Rattle.machine.specs.declared.Enables.{Enables}
 use Rattle.machine.specs.declared.Registers.{Registers}
@@ -78,6 +79,11 @@ pub record Laws : Type 0 where
   pub good-access : (r : Registers) (old : Entry) (a : CsrAccess) → goodOf r ≡ true → goodOf (accessOf r old a .registers) ≡ true
   pub good-clear : (r : Registers) → goodOf r ≡ true → goodOf (sctrclrOf r .registers) ≡ true
   pub good-host : (r : Registers) (e : Enables) → goodOf r ≡ true → goodOf (hostOf r e .registers) ≡ true
+
+-- a write of a control register, whatever the value, starts the cycle counter again with CCV 0 to come; no other write does
+pub record Restarts : Type 0 where
+  pub control : (r : Registers) (v : View) (x : ℕ) → registersWritten r (Control v) x .cycles ≡ noCycles
+  pub other : (r : Registers) (g : Csr) (x : ℕ) → ((v : View) → g ≡ Control v → ⊥) → registersWritten r g x .cycles ≡ r .cycles
 
 -- what is written to one word of an entry leaves the two others as they were
 pub record OtherWords : Type 0 where

@@ -5,7 +5,7 @@ use Rattle.bits.specs.Choice.{if_then_else_}
 use Rattle.bits.specs.Words.{bitAt, keep, joined}
 use Rattle.machine.specs.Controls.{mctrctlMask, sctrctlMask, machineMask}
 use Rattle.machine.specs.Entries.{definedOf}
-use Rattle.machine.specs.Regs.{withControls, withBuffer, withSelects}
+use Rattle.machine.specs.Regs.{withControls, withBuffer, withSelects, withCycles, noCycles}
 use Rattle.machine.specs.Depths.{topCode, depthOf}
 use Rattle.machine.specs.declared.Buffer.{Buffer}
 use Rattle.machine.specs.declared.ControlWords.{ControlWords}
@@ -48,9 +48,10 @@ depthWritten b x =
 unfoldable pub statusWritten : Buffer → ℕ → Buffer
 statusWritten b x = record { code = b .code; wrptr = x % 256 % depthOf (b .code); frozen = eqb (bitAt x 31) 1 }
 
--- the registers after a write
+-- the registers after a write. That of a control register, whatever the value, starts the cycle counter again, and the next record
+-- has CCV 0
 unfoldable pub registersWritten : Registers → Csr → ℕ → Registers
-registersWritten r (Control v) x = withControls r (controlWritten (r .controls) v x)
+registersWritten r (Control v) x = withCycles (withControls r (controlWritten (r .controls) v x)) noCycles
 registersWritten r (Select v) x = withSelects r (selectWritten (r .selects) v x)
 registersWritten r (Ireg v k) x = r
 registersWritten r Depth x = withBuffer r (depthWritten (r .buffer) x)

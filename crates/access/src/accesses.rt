@@ -1,6 +1,7 @@
 // A register access, SCTRCLR and the host's event.
 ghost use mathlib.Core.Path.{_≡_};
 ghost use Rattle.machine.specs.Answers.{acceptedClear};
+ghost use Rattle.machine.specs.Regs.{withCycles, noCycles};
 ghost use Rattle.access.specs.Accesses.{isRead, operandOf, writeOf, operatedOf, grantedOf, unlessRefused, accessTo, accessOf, accessFocus, sctrclrOf, hostOf};
 use crate::readings::reading;
 use crate::writes::effect_written;
@@ -26,6 +27,7 @@ use machine::answers::number;
 use machine::answers::refuse;
 use machine::depths::physical;
 use machine::regs::with_enables;
+use machine::regs::with_no_cycles;
 
 fn is_read(o: Operation) -> bool
     ensures { λ b. ⌜ b ≡ isRead o ⌝ }
@@ -120,12 +122,19 @@ pub fn focus(r: Registers, number: u64) -> u64
     physical(r.buffer.code, r.buffer.wrptr, bits::low(i, 8))
 }
 
-// All entries cleared, unless the steps refuse.
+// All entries cleared, and the cycle counter with them.
+fn clear(r: Registers) -> Decision
+    ensures { λ d. ⌜ d ≡ acceptedClear (withCycles r noCycles) ⌝ }
+{
+    accept_clear(with_no_cycles(r))
+}
+
+// The same, unless the steps refuse.
 fn grant_clear(v: Verdict, r: Registers) -> Decision
-    ensures { λ d. ⌜ d ≡ unlessRefused v r (acceptedClear r) ⌝ }
+    ensures { λ d. ⌜ d ≡ unlessRefused v r (acceptedClear (withCycles r noCycles)) ⌝ }
 {
     if is_accepted(v) {
-        accept_clear(r)
+        clear(r)
     } else {
         refuse(r, v)
     }

@@ -3,7 +3,7 @@ ghost use mathlib.Core.Path.{_≡_};
 ghost use lib.Dec.{ltb};
 ghost use Rattle.bits.specs.Words.{keep, joined};
 ghost use Rattle.machine.specs.Controls.{mctrctlMask, sctrctlMask, machineMask};
-ghost use Rattle.machine.specs.Regs.{withControls, withBuffer, withSelects};
+ghost use Rattle.machine.specs.Regs.{withControls, withBuffer, withSelects, withCycles, noCycles};
 ghost use Rattle.access.specs.Writes.{withMctrctl, withVsctrctl, controlWritten, selectWritten, depthWritten, statusWritten, registersWritten, withSource, withTarget, withData, withStored, withWord, entryWritten, effectWritten};
 use crate::readings::is_entry;
 use csr::Csr;
@@ -23,6 +23,7 @@ use machine::depths::wrapped;
 use machine::entries::defined;
 use machine::regs::with_buffer;
 use machine::regs::with_controls;
+use machine::regs::with_no_cycles;
 use machine::regs::with_selects;
 
 fn write_mctrctl(c: ControlWords, x: u64) -> ControlWords
@@ -99,11 +100,18 @@ fn write_status(b: Buffer, x: u64) -> Buffer
     }
 }
 
-fn control_written(r: Registers, v: View, x: u64) -> Registers
+fn with_control(r: Registers, v: View, x: u64) -> Registers
     ensures { λ q. ⌜ q ≡ withControls r (controlWritten (r .controls) v x) ⌝ }
 {
     let c = r.controls;
     with_controls(r, write_control(c, v, x))
+}
+
+// A control register written, and the cycle counter started again.
+fn control_written(r: Registers, v: View, x: u64) -> Registers
+    ensures { λ q. ⌜ q ≡ withCycles (withControls r (controlWritten (r .controls) v x)) noCycles ⌝ }
+{
+    with_no_cycles(with_control(r, v, x))
 }
 
 fn select_written(r: Registers, v: View, x: u64) -> Registers

@@ -5,6 +5,7 @@ use libc::STDOUT_FILENO;
 use machine::Buffer;
 use machine::ControlWords;
 use machine::CsrAccess;
+use machine::Cycles;
 use machine::Decision;
 use machine::Effect;
 use machine::Enables;
@@ -19,6 +20,7 @@ use machine::controls::MCTRCTL_MASK;
 use machine::controls::SCTRCTL_MASK;
 use machine::regs::with_buffer;
 use machine::regs::with_controls;
+use machine::regs::with_cycles;
 use machine::regs::with_enables;
 use machine::regs::with_mode;
 use machine::regs::with_selects;
@@ -262,13 +264,25 @@ fn mctrctl_of(s: u64, x: u64) -> u64 {
     if s % 8 == 7 { x } else { x & MCTRCTL_MASK }
 }
 
+fn cycles_of(s: u64, x: u64) -> Cycles {
+    Cycles {
+        counter: if s % 16 == 10 {
+            0x800_0000
+        } else {
+            x % 0x800_0000
+        },
+        ccv: x >> 63 == 1,
+    }
+}
+
 // State s of a mode.
 fn swept_state(run: Run, mode: Mode, s: u64) -> Run {
     let a = xorshift64(run.random);
     let b = xorshift64(a);
     let c = xorshift64(b);
+    let d = xorshift64(c);
     let mut next = run;
-    next.random = c;
+    next.random = d;
     let controls = ControlWords {
         mctrctl: mctrctl_of(s, a),
         vsctrctl: vsctrctl_of(s, b),
@@ -283,7 +297,7 @@ fn swept_state(run: Run, mode: Mode, s: u64) -> Run {
         with_buffer(with_controls(machine::regs::reset(), controls), buffer),
         mode,
     );
-    enabled(next, r, s)
+    enabled(next, with_cycles(r, cycles_of(s, d)), s)
 }
 
 fn swept(mode: Mode) -> Run {

@@ -45,7 +45,7 @@ use Rattle.recorder.specs.Entries.{entryAt, withEntry, appliedOf}
 use Rattle.recorder.specs.Events.{focusOf}
 use Rattle.recorder.specs.Steps.{stateOf, entriesIn, appliedTo, decidedOf, stepOf}
 use Rattle.recorder.specs.declared.State.{State}
-use Rattle.demands.specs.States.{depth, Free}
+use Rattle.demands.specs.States.{depth, Free, cyclesTo}
 use Rattle.demands.specs.Registers.{physical, selected, word, wordAt, changedAt, putAt, sctrctlIn, sctrctlTo, siselectToIn, selectedTo, reading, put, written, withZeros, withEnables}
 use Rattle.demands.specs.Steps.{Window, Outside}
 use Rattle.demands.specs.Demands.{GrantedAt}
@@ -224,7 +224,8 @@ module _ (s : State) where
       (appliedOf (entriesIn s) (effectWritten b (old g) g x) (physicalOf (b .buffer .code) (b .buffer .wrptr) (selectionOf (b .selects) g % 256)))
 
   sctrctl-written : (m : Mode) (x : ℕ) → (m ≡ VU → ⊥)
-      → Regs.withControls b (controlWritten (b .controls) (if isVirtual m then Guest else Supervisor) x) ≡ sctrctlTo m x b
+      → Regs.withCycles (Regs.withControls b (controlWritten (b .controls) (if isVirtual m then Guest else Supervisor) x)) Regs.noCycles
+      ≡ cyclesTo 0 false (sctrctlTo m x b)
   unfolding controlWritten
   sctrctl-written U x n = refl
   sctrctl-written S x n = refl
@@ -272,7 +273,7 @@ module _ (s : State) where
   written-is g Set x l n o = put-is g _ n o ∙ ap (λ (v : ℕ). put s g (joined v x)) (reading-is g l n o)
   written-is g Clear x l n o = put-is g _ n o ∙ ap (λ (v : ℕ). put s g (without v x)) (reading-is g l n o)
 
-pointer-lt : (r : Registers) → Free r → r .buffer .wrptr < 256
+pub pointer-lt : (r : Registers) → Free r → r .buffer .wrptr < 256
 pointer-lt r f = omega (arith, f .pointer, depth-is (r .buffer .code), depth-le (r .buffer .code))
 
 -- a granted access reaches the register of its number, answers its reading and leaves it written
@@ -300,7 +301,7 @@ clear-done s = go (goodOf (s .registers)) (isAccepted v) refl
     v = refusalOf (s .registers) sctrclrFacts
 
     d : Bool → Bool → Decision
-    d b c = if b then (if c then acceptedClear (s .registers) else refused (s .registers) v) else refused (s .registers) BadState
+    d b c = if b then (if c then acceptedClear (Regs.withCycles (s .registers) Regs.noCycles) else refused (s .registers) v) else refused (s .registers) BadState
 
     go : (b c : Bool) → isAccepted v ≡ c → d b c .number ≡ 0
         → (d b c .value ≡ 0) × (stateOf (d b c .registers) (appliedOf (entriesIn s) (d b c .effect) (focusOf (s .registers) Sctrclr)) ≡ withZeros s)

@@ -79,12 +79,12 @@ transfer-changes s e t i a n = go (upto4 (t .value) (a .no-other))
         (put-at s (withRecord s e .registers) (r .buffer .wrptr) i (recordOf r e) (λ h. Cause.recorded (q .0) (q .1) h))
     go (is-2 v) =
         let q = a .pops .0 v in
-        ended s (t .state) (withPop s) i (a .popped .0 v)
-        (put-at s (withPop s .registers) (physical r 0) i (withoutV newest) (λ h. Cause.popped (q .0) (q .1) h))
+        ended s (t .state) (withPop s e) i (a .popped .0 v)
+        (put-at s (withPop s e .registers) (physical r 0) i (withoutV newest) (λ h. Cause.popped (q .0) (q .1) h))
     go (is-3 v) =
         let q = a .swaps .0 v in
         ended s (t .state) (withSwap s e) i (a .swapped v)
-        (put-at s r (physical r 0) i (recordOf r e) (λ h. Cause.swapped (q .0) (q .1) h))
+        (put-at s (withSwap s e .registers) (physical r 0) i (recordOf r e) (λ h. Cause.swapped (q .0) (q .1) h))
     go (is-4 v) = ended s (t .state) (withFreeze s e) i (a .frozen v) (inl refl)
 
 -- an access that is answered has its selection in the window

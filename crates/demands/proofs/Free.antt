@@ -40,6 +40,7 @@ good-free r h =
       pointer = rw (depth-is (r .buffer .code)) at (ltb-true (r .buffer .wrptr) (depthOf (r .buffer .code)) (g .pointer));
       mctrctl = within _ _ (eqb-true _ _ (g .control));
       vsctrctl = within _ _ (eqb-true _ _ (g .guest));
+      counter = ltb-true _ _ (g .counter);
     }
 
 free-good : (r : Registers) → Free r → goodOf r ≡ true
@@ -50,6 +51,7 @@ free-good r f =
       pointer = lt-ltb (r .buffer .wrptr) (depthOf (r .buffer .code)) (rw (depth-is (r .buffer .code)) (f .pointer));
       control = eq-eqb _ _ (masked _ _ (f .mctrctl));
       guest = eq-eqb _ _ (masked _ _ (f .vsctrctl));
+      counter = lt-ltb _ _ (f .counter);
     })
 
 pub free : (r : Registers) → Decides (Free r) (goodOf r)

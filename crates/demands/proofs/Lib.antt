@@ -6,6 +6,7 @@ pub mod Reaching
 pub mod First
 pub mod Steps
 pub mod Numbers
+pub mod Counts
 pub mod Outcomes
 pub mod Does
 pub mod Transfers
@@ -21,5 +22,6 @@ pub mod Demand3Rows
 pub mod Changes
 pub mod Computed
 pub mod Parts
+pub mod Counted
 pub mod Useless
 pub mod CodeRuns

@@ -21,7 +21,7 @@ use Rattle.access.specs.Accesses.{accessOf, sctrclrOf, hostOf}
 use Rattle.access.specs.Laws.{Unchanged}
 use Rattle.access.proofs.Laws.{laws}
 use Rattle.qualifying.specs.Changes.{possibleTrap, possibleReturn}
-use Rattle.transfers.specs.Transfers.{doneOf, retiredOf, takenTrap, trapOf, takenReturn, returnOf}
+use Rattle.transfers.specs.Transfers.{doneOf, retiredOf, takenTrap, trapOf, takenReturn, returnOf, crossedOf}
 use Rattle.machine.specs.declared.Outcome.{Outcome}
 use Rattle.machine.specs.declared.Outcome.the-variants.{Nothing, Record, Pop, Swap, Freeze}
 use Rattle.transfers.proofs.Laws.{stays-good}
@@ -48,13 +48,13 @@ data Line (r : Registers) (e : Event) (d : Decision) : Type 0 where
   answered : Free r → (Impossible r e → ⊥) → stepNumber r e ≡ 0 → d .number ≡ 0 → Line r e d
 
 -- an outcome done is answered
-done-number : (r : Registers) (old x : Entry) (o : Outcome) → doneOf r old x o .number ≡ 0
+done-number : (r : Registers) (old x : Entry) (ra : Bool) (o : Outcome) → doneOf r old x ra o .number ≡ 0
 unfolding doneOf
-done-number r old x Nothing = refl
-done-number r old x Record = refl
-done-number r old x Pop = refl
-done-number r old x Swap = refl
-done-number r old x Freeze = refl
+done-number r old x ra Nothing = refl
+done-number r old x ra Record = refl
+done-number r old x ra Pop = refl
+done-number r old x ra Swap = refl
+done-number r old x ra Freeze = refl
 
 -- a change of mode, by whether it is possible
 changed : (r : Registers) (e : Event) (d : Decision) (possible : Bool) {A : Type 0} → Free r → d .number ≡ 0
@@ -72,12 +72,12 @@ stepped r e d f i l n u =
     (known (stepNumber r e) 0)
 
 event-line : (r : Registers) (old : Entry) (e : Event) → Free r → Line r e (eventOf r old e)
-unfolding eventOf retiredOf trapOf takenTrap returnOf takenReturn hostOf
-event-line r old (Retired w) f = answered f (λ i. i) refl (done-number r old _ _)
+unfolding eventOf retiredOf crossedOf trapOf takenTrap returnOf takenReturn hostOf
+event-line r old (Retired w) f = answered f (λ i. i) refl (done-number _ old _ _ _)
 event-line r old (Trap x) f =
-    changed r (Trap x) (takenTrap r old x) _ f (done-number r old _ _) (λ i p. i p) (λ i. i) (traps (r .mode) (x .mode)) refl
+    changed r (Trap x) (takenTrap r old x) _ f (done-number _ old _ _ _) (λ i p. i p) (λ i. i) (traps (r .mode) (x .mode)) refl
 event-line r old (TrapReturn x) f =
-    changed r (TrapReturn x) (takenReturn r old x) _ f (done-number r old _ _) (λ i p. i p) (λ i. i) (returns (r .mode) (x .mode)) refl
+    changed r (TrapReturn x) (takenReturn r old x) _ f (done-number _ old _ _ _) (λ i p. i p) (λ i. i) (returns (r .mode) (x .mode)) refl
 event-line r old (Access a) f =
     stepped r (Access a) (accessOf r old a) f (λ i. i) (refusals r (factsOf r (registerOf (a .number))) .no-other)
     (laws .access-number r old a) (laws .refused-access r old a)

@@ -1,5 +1,5 @@
 -- What `EveryRow` states. Assumes nothing.
-use Prim.Native.Nat.{ℕ, zero, suc, _+_, _*_, _%_, _<_}
+use Prim.Native.Nat.{ℕ, zero, suc, _+_, _*_, _/_, _%_, _<_}
 use mathlib.Core.Path.{_≡_, refl, sym, ap, subst, _∙_}
 use mathlib.Core.Bool.{Bool, true, false}
 use native.Mathlib.Omega.{arith}
@@ -20,37 +20,84 @@ use Rattle.trace.specs.declared.Row.the-variants.{WellFormed, Malformed}
 use Rattle.demands.proofs.Decides.{Decides, pair}
 use Rattle.demands.specs.Rows.{Words, words, flag, modeCode, operationCode, wordsOf, Fits, RowOf, EveryRow}
 
+-- word 0 with cycles above its low half: the kind, the fields and the cycles of it
+module _ (h n : ℕ) (l : h < 0x100000000) where
+  abbrev word-0 : ℕ
+  word-0 = h + 0x100000000 * n
+
+  head-is : word-0 % 0x100000000 ≡ h
+  head-is = omega (arith, l)
+
+  kind-is : word-0 % 0x100 ≡ h % 0x100
+  kind-is = omega arith
+
+  taken-is : bitAt word-0 8 ≡ bitAt h 8
+  taken-is = omega arith
+
+  target-is : fieldAt word-0 8 3 ≡ fieldAt h 8 3
+  target-is = omega arith
+
+  interrupt-is : bitAt word-0 11 ≡ bitAt h 11
+  interrupt-is = omega arith
+
+  cycles-is : word-0 / 0x100000000 ≡ n
+  cycles-is = omega (arith, l)
+
 -- the words of an event are decoded to it
-retired : (taken : Bool) (word pc target : ℕ) → word < 0x100000000
-    → rowOf (0 + 0x100 * flag taken) word pc target
-    ≡ WellFormed (Retired (record { word = word; pc = pc; target = target; taken = taken }))
+retired-at : (h n word pc target : ℕ) → h % 0x100 ≡ 0 → h < 0x200 → word < 0x100000000
+    → rowOf (h + 0x100000000 * n) word pc target
+    ≡ WellFormed (Retired (record { word = word; pc = pc; target = target; taken = eqb (bitAt h 8) 1; cycles = n }))
 unfolding isRetiredRow retiredRow rowBy rowOf
-retired true word pc target h = rw (lt-ltb _ _ h)
-retired false word pc target h = rw (lt-ltb _ _ h)
+retired-at h n word pc target k l w =
+    let f : h < 0x100000000 = omega (arith, l) in
+    rw (kind-is h n f, k, head-is h n f, lt-ltb h 0x200 l, lt-ltb _ _ w, taken-is h n f, cycles-is h n f)
 
-trap : (m : Mode) (interrupt : Bool) (cause epc handler : ℕ)
-    → rowOf (1 + 0x100 * modeCode m + 0x800 * flag interrupt) cause epc handler
-    ≡ WellFormed (Trap (record { mode = m; interrupt = interrupt; cause = cause; epc = epc; handler = handler }))
-unfolding modeOf hasMode isTrapRow trapRow rowBy rowOf
-trap U true cause epc handler = refl
-trap U false cause epc handler = refl
-trap S true cause epc handler = refl
-trap S false cause epc handler = refl
-trap M true cause epc handler = refl
-trap M false cause epc handler = refl
-trap VU true cause epc handler = refl
-trap VU false cause epc handler = refl
-trap VS true cause epc handler = refl
-trap VS false cause epc handler = refl
+retired : (taken : Bool) (n word pc target : ℕ) → word < 0x100000000
+    → rowOf (0 + 0x100 * flag taken + 0x100000000 * n) word pc target
+    ≡ WellFormed (Retired (record { word = word; pc = pc; target = target; taken = taken; cycles = n }))
+retired true n word pc target h = retired-at 0x100 n word pc target refl (omega arith) h
+retired false n word pc target h = retired-at 0 n word pc target refl (omega arith) h
 
-trap-return : (m : Mode) (pc target : ℕ)
-    → rowOf (2 + 0x100 * modeCode m) 0 pc target ≡ WellFormed (TrapReturn (record { mode = m; pc = pc; target = target }))
-unfolding modeOf hasMode isReturnRow returnRow rowBy rowOf
-trap-return U pc target = refl
-trap-return S pc target = refl
-trap-return M pc target = refl
-trap-return VU pc target = refl
-trap-return VS pc target = refl
+trap-at : (h n cause epc handler : ℕ) → h % 0x100 ≡ 1 → h < 0x1000 → fieldAt h 8 3 < 5
+    → rowOf (h + 0x100000000 * n) cause epc handler
+    ≡ WellFormed (Trap (record { mode = modeOf (fieldAt h 8 3); interrupt = eqb (bitAt h 11) 1; cause = cause; epc = epc; handler = handler; cycles = n }))
+unfolding hasMode isTrapRow trapRow rowBy rowOf
+trap-at h n cause epc handler k l m =
+    let f : h < 0x100000000 = omega (arith, l) in
+    rw (kind-is h n f, k, head-is h n f, lt-ltb h 0x1000 l, target-is h n f, lt-ltb _ 5 m, interrupt-is h n f, cycles-is h n f)
+
+trap : (m : Mode) (interrupt : Bool) (n cause epc handler : ℕ)
+    → rowOf (1 + 0x100 * modeCode m + 0x800 * flag interrupt + 0x100000000 * n) cause epc handler
+    ≡ WellFormed (Trap (record { mode = m; interrupt = interrupt; cause = cause; epc = epc; handler = handler; cycles = n }))
+unfolding modeOf
+trap U true n cause epc handler = trap-at 0x801 n cause epc handler refl (omega arith) (omega arith)
+trap U false n cause epc handler = trap-at 0x001 n cause epc handler refl (omega arith) (omega arith)
+trap S true n cause epc handler = trap-at 0x901 n cause epc handler refl (omega arith) (omega arith)
+trap S false n cause epc handler = trap-at 0x101 n cause epc handler refl (omega arith) (omega arith)
+trap M true n cause epc handler = trap-at 0xA01 n cause epc handler refl (omega arith) (omega arith)
+trap M false n cause epc handler = trap-at 0x201 n cause epc handler refl (omega arith) (omega arith)
+trap VU true n cause epc handler = trap-at 0xB01 n cause epc handler refl (omega arith) (omega arith)
+trap VU false n cause epc handler = trap-at 0x301 n cause epc handler refl (omega arith) (omega arith)
+trap VS true n cause epc handler = trap-at 0xC01 n cause epc handler refl (omega arith) (omega arith)
+trap VS false n cause epc handler = trap-at 0x401 n cause epc handler refl (omega arith) (omega arith)
+
+return-at : (h n pc target : ℕ) → h % 0x100 ≡ 2 → h < 0x800 → fieldAt h 8 3 < 5
+    → rowOf (h + 0x100000000 * n) 0 pc target
+    ≡ WellFormed (TrapReturn (record { mode = modeOf (fieldAt h 8 3); pc = pc; target = target; cycles = n }))
+unfolding hasMode isReturnRow returnRow rowBy rowOf
+return-at h n pc target k l m =
+    let f : h < 0x100000000 = omega (arith, l) in
+    rw (kind-is h n f, k, head-is h n f, lt-ltb h 0x800 l, target-is h n f, lt-ltb _ 5 m, cycles-is h n f)
+
+trap-return : (m : Mode) (n pc target : ℕ)
+    → rowOf (2 + 0x100 * modeCode m + 0x100000000 * n) 0 pc target
+    ≡ WellFormed (TrapReturn (record { mode = m; pc = pc; target = target; cycles = n }))
+unfolding modeOf
+trap-return U n pc target = return-at 0x002 n pc target refl (omega arith) (omega arith)
+trap-return S n pc target = return-at 0x102 n pc target refl (omega arith) (omega arith)
+trap-return M n pc target = return-at 0x202 n pc target refl (omega arith) (omega arith)
+trap-return VU n pc target = return-at 0x302 n pc target refl (omega arith) (omega arith)
+trap-return VS n pc target = return-at 0x402 n pc target refl (omega arith) (omega arith)
 
 access : (o : Operation) (number operand : ℕ) → number < 4096
     → rowOf (3 + 0x100 * operationCode o) number operand 0
@@ -75,9 +122,9 @@ row w = rowOf (w .zero) (w .one) (w .two) (w .three)
 
 of-event : (e : Event) → Fits e → row (wordsOf e) ≡ WellFormed e
 unfolding areZeros isPlainRow plainRow rowBy rowOf
-of-event (Retired w) h = retired (w .taken) (w .word) (w .pc) (w .target) h
-of-event (Trap t) h = trap (t .mode) (t .interrupt) (t .cause) (t .epc) (t .handler)
-of-event (TrapReturn t) h = trap-return (t .mode) (t .pc) (t .target)
+of-event (Retired w) h = retired (w .taken) (w .cycles) (w .word) (w .pc) (w .target) h
+of-event (Trap t) h = trap (t .mode) (t .interrupt) (t .cycles) (t .cause) (t .epc) (t .handler)
+of-event (TrapReturn t) h = trap-return (t .mode) (t .cycles) (t .pc) (t .target)
 of-event (Access a) h = access (a .operation) (a .number) (a .operand) h
 of-event Sctrclr h = refl
 of-event (Host x) h = host (x .mstateen0) (x .hstateen0)
@@ -109,15 +156,16 @@ operation-is (suc (suc (suc zero))) h = refl
 operation-is (suc (suc (suc (suc n)))) h = absurd (omega arith)
 
 -- word 0 from its kind, its size and its fields
-retired-word : (w : ℕ) → w % 0x100 ≡ 0 → w < 0x200 → w ≡ 0 + 0x100 * flag (eqb (bitAt w 8) 1)
-retired-word w k l = rw (flag-is (bitAt w 8) (omega arith)) (omega arith)
+retired-word : (w : ℕ) → w % 0x100 ≡ 0 → w % 0x100000000 < 0x200 → w ≡ 0 + 0x100 * flag (eqb (bitAt w 8) 1) + 0x100000000 * (w / 0x100000000)
+retired-word w k l = rw (flag-is (bitAt w 8) (omega arith)) (omega (arith, k, l))
 
-trap-word : (w : ℕ) → w % 0x100 ≡ 1 → w < 0x1000 → fieldAt w 8 3 < 5
-    → w ≡ 1 + 0x100 * modeCode (modeOf (fieldAt w 8 3)) + 0x800 * flag (eqb (bitAt w 11) 1)
-trap-word w k l m = rw (flag-is (bitAt w 11) (omega arith), mode-is (fieldAt w 8 3) m) (omega arith)
+trap-word : (w : ℕ) → w % 0x100 ≡ 1 → w % 0x100000000 < 0x1000 → fieldAt w 8 3 < 5
+    → w ≡ 1 + 0x100 * modeCode (modeOf (fieldAt w 8 3)) + 0x800 * flag (eqb (bitAt w 11) 1) + 0x100000000 * (w / 0x100000000)
+trap-word w k l m = rw (flag-is (bitAt w 11) (omega arith), mode-is (fieldAt w 8 3) m) (omega (arith, k, l))
 
-return-word : (w : ℕ) → w % 0x100 ≡ 2 → w < 0x800 → fieldAt w 8 3 < 5 → w ≡ 2 + 0x100 * modeCode (modeOf (fieldAt w 8 3))
-return-word w k l m = rw (mode-is (fieldAt w 8 3) m) (omega arith)
+return-word : (w : ℕ) → w % 0x100 ≡ 2 → w % 0x100000000 < 0x800 → fieldAt w 8 3 < 5
+    → w ≡ 2 + 0x100 * modeCode (modeOf (fieldAt w 8 3)) + 0x100000000 * (w / 0x100000000)
+return-word w k l m = rw (mode-is (fieldAt w 8 3) m) (omega (arith, k, l))
 
 access-word : (w : ℕ) → w % 0x100 ≡ 3 → w < 0x400 → w ≡ 3 + 0x100 * operationCode (operationOf (fieldAt w 8 2))
 access-word w k l = rw (operation-is (fieldAt w 8 2) (omega arith)) (omega arith)
@@ -144,16 +192,16 @@ below a b = record { to = lt-ltb a b; from = ltb-true a b }
 is : (a b : ℕ) → Decides (a ≡ b) (eqb a b)
 is a b = record { to = eq-eqb a b; from = eqb-true a b }
 
-with-mode : (w limit : ℕ) → Decides ((w < limit) × (fieldAt w 8 3 < 5)) (hasMode w limit)
+with-mode : (w limit : ℕ) → Decides ((w % 0x100000000 < limit) × (fieldAt w 8 3 < 5)) (hasMode w limit)
 unfolding hasMode
-with-mode w limit = pair _ _ (below w limit) (below (fieldAt w 8 3) 5)
+with-mode w limit = pair _ _ (below (w % 0x100000000) limit) (below (fieldAt w 8 3) 5)
 
 -- the row of each kind, and of all
 module _ (w a b c : ℕ) where
   right-retired : w % 0x100 ≡ 0 → Right (words w a b c) (retiredRow w a b c)
   unfolding retiredRow isRetiredRow
   right-retired k =
-      by (pair _ _ (below w 0x200) (below a 0x100000000))
+      by (pair _ _ (below (w % 0x100000000) 0x200) (below a 0x100000000))
       (λ l. event (record { fits = l .1; same = ap (λ (x : ℕ). words x a b c) (retired-word w k (l .0)) })) none
 
   right-trap : w % 0x100 ≡ 1 → Right (words w a b c) (trapRow w a b c)

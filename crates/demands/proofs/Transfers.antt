@@ -93,7 +93,7 @@ module _ (s : State) (e : Event) where
   is-record f Swap h = stands-up (ap pointer h)
   is-record f Freeze h = stands-up (ap pointer h)
 
-  is-pop : Free r → (o : Outcome) → stateFor s e o ≡ withPop s → o ≡ Pop
+  is-pop : Free r → (o : Outcome) → stateFor s e o ≡ withPop s e → o ≡ Pop
   is-pop f Nothing h = stands-down (ap pointer h)
   is-pop f Record h = up-down f (ap pointer h)
   is-pop f Pop h = refl

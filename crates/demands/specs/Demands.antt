@@ -54,11 +54,11 @@ pub record TransferAt (s : State) (e : Event) (t : Stepped) : Type 0 where
   pub no-other : t .value ≤ 4
   -- value 1 exactly if an entry and WRPTR changed as described, and 2 likewise
   pub recorded : t .value ≡ 1 ↔ (t .state ≡ withRecord s e)
-  pub popped : t .value ≡ 2 ↔ (t .state ≡ withPop s)
+  pub popped : t .value ≡ 2 ↔ (t .state ≡ withPop s e)
   -- of 3 and 4 the state alone can't tell: the words, or FROZEN, may have been there already
   pub swapped : t .value ≡ 3 → t .state ≡ withSwap s e
   pub frozen : t .value ≡ 4 → t .state ≡ withFreeze s e
-  -- nothing: the mode alone changes
+  -- nothing: the mode changes, and what counts, alone
   pub nothing : t .number ≡ 0 → t .value ≡ 0 → t .state ≡ withMove s e
 
 -- of an access that is granted: it reaches a register by its number, the value is the old reading, and the state is the one written

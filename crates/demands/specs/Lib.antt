@@ -2,12 +2,14 @@ pub mod Parts
 pub mod States
 pub mod Registers
 pub mod Steps
+pub mod Counts
 pub mod Transfers
 pub mod Demands
 pub mod Demand3
 pub mod Rows
 pub mod Replays
 pub mod Changes
+pub mod Counted
 pub mod Useless
 pub mod CodeRuns
 pub mod BenchTable

@@ -1,6 +1,7 @@
 -- Registers (docs/RULES.md, R1 to R16 and R23): what a CSR number reaches, what each register reads as, and the state after a write.
 use Prim.Native.Nat.{ℕ, zero, suc, _+_, _-_, _*_, _/_, _%_, _<_, min}
 use mathlib.Core.Path.{_≡_}
+use mathlib.Core.Bool.{false}
 use lib.Dec.{eqb, ltb}
 use Rattle.bits.specs.Choice.{if_then_else_}
 use Rattle.bits.specs.Words.{bitAt, keep, joined, without}
@@ -18,7 +19,7 @@ use Rattle.machine.specs.declared.Operation.the-variants.{Read, Write, Set, Cle
 use Rattle.recorder.specs.Entries.{entryAt, withEntry}
 use Rattle.recorder.specs.Steps.{stateOf, entriesIn}
 use Rattle.recorder.specs.declared.State.{State}
-use Rattle.demands.specs.States.{depth, zeros, mctrctlTo, vsctrctlTo, codeTo, wrptrTo, frozenTo, siselectTo, vsiselectTo, enablesTo}
+use Rattle.demands.specs.States.{depth, zeros, mctrctlTo, vsctrctlTo, codeTo, wrptrTo, frozenTo, siselectTo, vsiselectTo, enablesTo, cyclesTo}
 
 -- what each number reaches; sireg to sireg6 carry 0 to 5, and vsireg to vsireg6 likewise. No other number is listed: there is no
 -- select register and no ireg of M's here
@@ -99,11 +100,12 @@ pub record Logical (r : Registers) (i p : ℕ) : Type 0 where
   pub below : p < depth (r .buffer .code)
   pub place : (p + 1 + i) % depth (r .buffer .code) ≡ r .buffer .wrptr
 
--- sireg reaches ctrsource, sireg2 ctrtarget (bit 0 reads 0), sireg3 ctrdata (only TYPE, bits 3..0); sireg4 to sireg6 read 0
+-- sireg reaches ctrsource, sireg2 ctrtarget (bit 0 reads 0), sireg3 ctrdata (CC in bits 31..16, CCV bit 15, TYPE in 3..0, mask
+-- 0xFFFF800F); sireg4 to sireg6 read 0
 abbrev pub word : Entry → ℕ → ℕ
 word e zero = e .ctrsource
 word e (suc zero) = e .ctrtarget / 2 * 2
-word e (suc (suc zero)) = e .ctrdata % 16
+word e (suc (suc zero)) = keep 0xFFFF800F (e .ctrdata)
 word e (suc (suc (suc k))) = 0
 
 -- word k of the entry that a selection means: 0x200 + i selects logical entry i, and those from the depth up read 0
@@ -141,7 +143,7 @@ abbrev pub ctrtargetTo : ℕ → Entry → Entry
 ctrtargetTo x e = record { ctrsource = e .ctrsource; ctrtarget = x / 2 * 2; ctrdata = e .ctrdata }
 
 abbrev pub ctrdataTo : ℕ → Entry → Entry
-ctrdataTo x e = record { ctrsource = e .ctrsource; ctrtarget = e .ctrtarget; ctrdata = x % 16 }
+ctrdataTo x e = record { ctrsource = e .ctrsource; ctrtarget = e .ctrtarget; ctrdata = keep 0xFFFF800F x }
 
 -- the state with word k of the selected entry written; a word that reads 0 takes the write without effect
 abbrev pub putAt : State → ℕ → ℕ → ℕ → State
@@ -154,11 +156,12 @@ putAt s selection (suc (suc (suc k))) x = s
 abbrev pub registersTo : Registers → State → State
 registersTo r s = stateOf r (entriesIn s)
 
--- the state after a write
+-- the state after a write. A granted write, set or clear of a control register restarts the cycle counter, and the next record has
+-- CCV 0
 abbrev pub put : State → Csr → ℕ → State
-put s (Control Machine) x = registersTo (mctrctlTo (keep 0x0000FF3E00001B87 x) (s .registers)) s
-put s (Control Supervisor) x = registersTo (sctrctlTo (s .registers .mode) x (s .registers)) s
-put s (Control Guest) x = registersTo (vsctrctlTo (keep 0x0000FF3E00001983 x) (s .registers)) s
+put s (Control Machine) x = registersTo (cyclesTo 0 false (mctrctlTo (keep 0x0000FF3E00001B87 x) (s .registers))) s
+put s (Control Supervisor) x = registersTo (cyclesTo 0 false (sctrctlTo (s .registers .mode) x (s .registers))) s
+put s (Control Guest) x = registersTo (cyclesTo 0 false (vsctrctlTo (keep 0x0000FF3E00001983 x) (s .registers))) s
 -- the low three bits, 5..7 become 4, and WRPTR becomes WRPTR modulo the new depth
 put s Depth x =
     let code = min (x % 8) 4 in
@@ -177,9 +180,9 @@ written s Write g x = put s g x
 written s Set g x = put s g (joined (reading s g) x)
 written s Clear g x = put s g (without (reading s g) x)
 
--- SCTRCLR zeroes all 768 entry words; WRPTR and FROZEN stay
+-- SCTRCLR zeroes all 768 entry words; WRPTR and FROZEN stay. It restarts the cycle counter, and the next record has CCV 0
 abbrev pub withZeros : State → State
-withZeros s = stateOf (s .registers) zeros
+withZeros s = stateOf (cyclesTo 0 false (s .registers)) zeros
 
 -- the host sets the two state-enable bits
 abbrev pub withEnables : Enables → State → State

@@ -38,6 +38,7 @@ start =
       buffer = record { code = 0; wrptr = 0; frozen = false };
       selects = record { siselect = 0; vsiselect = 0 };
       enables = record { mstateen0 = false; hstateen0 = false };
+      cycles = record { counter = 0; ccv = false };
     })
     zeros
 
@@ -91,12 +92,14 @@ IsSet r c b = bit r c b ≡ 1
 abbrev pub IsClear : Registers → ControlRegister → ControlBit → Type 0
 IsClear r c b = bit r c b ≡ 0
 
--- free of number 5, which is a depth code above 4, WRPTR not below the depth, or a control bit outside its mask
+-- free of number 5, which is a depth code above 4, WRPTR not below the depth, a control bit outside its mask, or a counter of 2^27 or
+-- more
 pub record Free (r : Registers) : Type 0 where
   pub code : r .buffer .code ≤ 4
   pub pointer : r .buffer .wrptr < depth (r .buffer .code)
   pub mctrctl : Within 0x0000FF3E00001B87 (r .controls .mctrctl)
   pub vsctrctl : Within 0x0000FF3E00001983 (r .controls .vsctrctl)
+  pub counter : r .cycles .counter < 0x8000000
 
 -- possible traps: U to S, M; VU to VS, S, M; VS to VS, S, M; S to S, M; M to M
 pub data Traps : Mode → Mode → Type 0 where
@@ -137,11 +140,19 @@ Impossible r (Host h) = ⊥
 
 -- the registers with one of them changed, and all others as they were
 abbrev pub modeTo : Mode → Registers → Registers
-modeTo m r = record { mode = m; controls = r .controls; buffer = r .buffer; selects = r .selects; enables = r .enables }
+modeTo m r =
+    record { mode = m; controls = r .controls; buffer = r .buffer; selects = r .selects; enables = r .enables; cycles = r .cycles }
 
 abbrev controlsTo : ℕ → ℕ → Registers → Registers
 controlsTo m v r =
-    record { mode = r .mode; controls = record { mctrctl = m; vsctrctl = v }; buffer = r .buffer; selects = r .selects; enables = r .enables }
+    record {
+      mode = r .mode;
+      controls = record { mctrctl = m; vsctrctl = v };
+      buffer = r .buffer;
+      selects = r .selects;
+      enables = r .enables;
+      cycles = r .cycles;
+    }
 
 abbrev pub mctrctlTo : ℕ → Registers → Registers
 mctrctlTo x r = controlsTo x (r .controls .vsctrctl) r
@@ -151,7 +162,14 @@ vsctrctlTo x r = controlsTo (r .controls .mctrctl) x r
 
 abbrev bufferTo : ℕ → ℕ → Bool → Registers → Registers
 bufferTo c w f r =
-    record { mode = r .mode; controls = r .controls; buffer = record { code = c; wrptr = w; frozen = f }; selects = r .selects; enables = r .enables }
+    record {
+      mode = r .mode;
+      controls = r .controls;
+      buffer = record { code = c; wrptr = w; frozen = f };
+      selects = r .selects;
+      enables = r .enables;
+      cycles = r .cycles;
+    }
 
 abbrev pub codeTo : ℕ → Registers → Registers
 codeTo x r = bufferTo x (r .buffer .wrptr) (r .buffer .frozen) r
@@ -164,7 +182,14 @@ frozenTo b r = bufferTo (r .buffer .code) (r .buffer .wrptr) b r
 
 abbrev selectsTo : ℕ → ℕ → Registers → Registers
 selectsTo s v r =
-    record { mode = r .mode; controls = r .controls; buffer = r .buffer; selects = record { siselect = s; vsiselect = v }; enables = r .enables }
+    record {
+      mode = r .mode;
+      controls = r .controls;
+      buffer = r .buffer;
+      selects = record { siselect = s; vsiselect = v };
+      enables = r .enables;
+      cycles = r .cycles;
+    }
 
 abbrev pub siselectTo : ℕ → Registers → Registers
 siselectTo x r = selectsTo x (r .selects .vsiselect) r
@@ -181,4 +206,17 @@ enablesTo e r =
       buffer = r .buffer;
       selects = r .selects;
       enables = record { mstateen0 = e .mstateen0; hstateen0 = e .hstateen0 };
+      cycles = r .cycles;
+    }
+
+-- the cycle counter, and the CCV that an ordinary record would now get
+abbrev pub cyclesTo : ℕ → Bool → Registers → Registers
+cyclesTo n ccv r =
+    record {
+      mode = r .mode;
+      controls = r .controls;
+      buffer = r .buffer;
+      selects = r .selects;
+      enables = r .enables;
+      cycles = record { counter = n; ccv = ccv };
     }

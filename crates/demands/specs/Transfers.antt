@@ -1,6 +1,6 @@
 -- When a transfer qualifies (docs/RULES.md, Q), as relations: each constructor is a sentence of the papers, and no test comes before
--- another; and what a record, a pop, a swap and a freeze leave behind.
-use Prim.Native.Nat.{ℕ, zero, suc, _+_, _-_, _*_, _/_, _%_}
+-- another; what counts in the cycle counter; and what a record, a pop, a swap and a freeze leave behind.
+use Prim.Native.Nat.{ℕ, zero, suc, _+_, _-_, _*_, _/_, _%_, min}
 use mathlib.Core.Path.{_≡_}
 use mathlib.Core.Bool.{Bool, true, false}
 use mathlib.Core.Logic.{_⊎_}
@@ -22,7 +22,8 @@ use Rattle.recorder.specs.Steps.{stateOf, entriesIn}
 use Rattle.machine.specs.declared.Event.{Event}
 use Rattle.machine.specs.declared.Event.the-variants.{Retired, Trap, TrapReturn, Access, Sctrclr, Host}
 use Rattle.recorder.specs.declared.State.{State}
-use Rattle.demands.specs.States.{depth, bit, IsSet, IsClear, Traps, Returns, modeTo, wrptrTo, frozenTo}
+use Rattle.demands.specs.States.{depth, bit, IsSet, IsClear, Traps, Returns, modeTo, wrptrTo, frozenTo, cyclesTo}
+use Rattle.demands.specs.Counts.{CCE, CCM}
 use Rattle.demands.specs.Registers.{physical, registersTo}
 
 -- the control register of a mode: vsctrctl for VS and VU, else mctrctl
@@ -172,32 +173,70 @@ pub data Swaps (r : Registers) : Event → Type 0 where
   type-12 : {w : RetiredWord}
       → r .buffer .frozen ≡ false → RASEMU r (Retired w) ≡ 1 → On r (r .mode) → typeOf w ≡ 12 → Swaps r (Retired w)
 
+-- the cycles of a retired word, a trap or a return: those spent since the event before it
+abbrev pub cyclesOf : Event → ℕ
+cyclesOf (Retired w) = w .cycles
+cyclesOf (Trap t) = t .cycles
+cyclesOf (TrapReturn t) = t .cycles
+cyclesOf (Access a) = 0
+cyclesOf Sctrclr = 0
+cyclesOf (Host h) = 0
+
+-- 1 where the counter counts, only while the event's source mode is on and FROZEN was 0 before the event; else 0
+abbrev pub counts : Registers → ℕ
+counts r = if r .buffer .frozen then 0 else switch r (r .mode)
+
+-- the counter with the event's cycles, which go in before its own record. It has 27 bits and stays at its top
+abbrev pub counter : Registers → Event → ℕ
+counter r e = min (r .cycles .counter + counts r * cyclesOf e) 0x7FFFFFF
+
+-- any event from a mode that is on, with FROZEN 0 before it, while RASEMU governs it, zeroes the counter, and the next ordinary
+-- record has CCV 0
+abbrev pub zeroes : Registers → Event → Bool
+zeroes r e = eqb (counts r * RASEMU r e) 1
+
+-- the registers of an event that is not recorded, with its cycles
+abbrev pub counted : Registers → Event → Registers
+counted r e = cyclesTo (if zeroes r e then 0 else counter r e) (if zeroes r e then false else r .cycles .ccv) r
+
+-- those of one that is: the counter restarts, and the next record has CCV 1, but under RASEMU 0
+abbrev pub restarted : Registers → Event → Registers
+restarted r e = cyclesTo 0 (eqb (RASEMU r e) 0) r
+
+-- ctrdata of a record: CC, the coded count whatever CCV says, in bits 31..16, CCE above CCM; CCV in bit 15; the type in 3..0. Under
+-- RASEMU a record or swap has CCV and CC 0
+abbrev pub ctrdataOf : Registers → Event → ℕ → ℕ
+ctrdataOf r e type =
+    if eqb (RASEMU r e) 1 then type
+    else (type + (if r .cycles .ccv then 0x8000 else 0) + 0x10000 * CCM (counter r e) + 0x10000000 * CCE (counter r e))
+
 -- the address of a side: PC 0 where the switch of its mode is 0
 abbrev pub sideOf : ℕ → ℕ → ℕ
 sideOf zero pc = 0
 sideOf (suc on) pc = pc
 
--- a record: pc with bit 0 set (V), target with bit 0 clear, type
+-- a record: pc with bit 0 set (V), target with bit 0 clear, type and count
 abbrev pub entryOf : ℕ → ℕ → ℕ → Entry
-entryOf pc target type = record { ctrsource = pc / 2 * 2 + 1; ctrtarget = target / 2 * 2; ctrdata = type }
+entryOf pc target x = record { ctrsource = pc / 2 * 2 + 1; ctrtarget = target / 2 * 2; ctrdata = x }
 
 -- what an event records, or puts in place of logical entry 0, if it does; accesses, SCTRCLR and the host's event never do
 abbrev pub recordOf : Registers → Event → Entry
-recordOf r (Retired w) = entryOf (w .pc) (w .target) (typeOf w)
+recordOf r (Retired w) = entryOf (w .pc) (w .target) (ctrdataOf r (Retired w) (typeOf w))
 recordOf r (Trap t) =
-    entryOf (sideOf (switch r (r .mode)) (t .epc)) (sideOf (switch r (t .mode)) (t .handler)) (trapType (t .interrupt))
-recordOf r (TrapReturn t) = entryOf (sideOf (switch r (r .mode)) (t .pc)) (sideOf (switch r (t .mode)) (t .target)) 3
+    entryOf (sideOf (switch r (r .mode)) (t .epc)) (sideOf (switch r (t .mode)) (t .handler)) (ctrdataOf r (Trap t) (trapType (t .interrupt)))
+recordOf r (TrapReturn t) =
+    entryOf (sideOf (switch r (r .mode)) (t .pc)) (sideOf (switch r (t .mode)) (t .target)) (ctrdataOf r (TrapReturn t) 3)
 recordOf r (Access a) = entryOf 0 0 0
 recordOf r Sctrclr = entryOf 0 0 0
 recordOf r (Host h) = entryOf 0 0 0
 
--- the mode alone
+-- the mode, and what counts, alone
 abbrev pub withMove : State → Event → State
-withMove s e = let r = s .registers in registersTo (modeTo (modeAfter r e) r) s
+withMove s e = let r = s .registers in registersTo (modeTo (modeAfter r e) (counted r e)) s
 
--- FROZEN is set, and the mode changes
+-- FROZEN is set, and the mode changes; the trap's own cycles count, if FROZEN was 0 before it
 abbrev pub withFreeze : State → Event → State
-withFreeze s e = let r = s .registers in registersTo (modeTo (modeAfter r e) (frozenTo true r)) s
+withFreeze s e = let r = s .registers in registersTo (modeTo (modeAfter r e) (frozenTo true (counted r e))) s
 
 -- WRPTR one up and one down, modulo depth
 abbrev pub oneUp : Registers → ℕ
@@ -210,17 +249,17 @@ oneDown r = (r .buffer .wrptr + depth (r .buffer .code) - 1) % depth (r .buffer 
 abbrev pub withRecord : State → Event → State
 withRecord s e =
     let r = s .registers in
-    stateOf (modeTo (modeAfter r e) (wrptrTo (oneUp r) r)) (withEntry (entriesIn s) (r .buffer .wrptr) (recordOf r e))
+    stateOf (modeTo (modeAfter r e) (wrptrTo (oneUp r) (restarted r e))) (withEntry (entriesIn s) (r .buffer .wrptr) (recordOf r e))
 
 -- a pop clears V of logical entry 0, and WRPTR goes down by one
 abbrev pub withoutV : Entry → Entry
 withoutV e = record { ctrsource = e .ctrsource / 2 * 2; ctrtarget = e .ctrtarget; ctrdata = e .ctrdata }
 
-abbrev pub withPop : State → State
-withPop s =
+abbrev pub withPop : State → Event → State
+withPop s e =
     let r = s .registers in
-    stateOf (wrptrTo (oneDown r) r) (withEntry (entriesIn s) (physical r 0) (withoutV (entryAt (entriesIn s) (physical r 0))))
+    stateOf (wrptrTo (oneDown r) (counted r e)) (withEntry (entriesIn s) (physical r 0) (withoutV (entryAt (entriesIn s) (physical r 0))))
 
 -- a swap overwrites logical entry 0 whole, and WRPTR stays
 abbrev pub withSwap : State → Event → State
-withSwap s e = let r = s .registers in stateOf r (withEntry (entriesIn s) (physical r 0) (recordOf r e))
+withSwap s e = let r = s .registers in stateOf (counted r e) (withEntry (entriesIn s) (physical r 0) (recordOf r e))

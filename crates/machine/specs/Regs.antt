@@ -7,7 +7,12 @@ use Rattle.machine.specs.declared.ControlWords.{ControlWords}
 use Rattle.machine.specs.declared.Buffer.{Buffer}
 use Rattle.machine.specs.declared.Selects.{Selects}
 use Rattle.machine.specs.declared.Enables.{Enables}
+use Rattle.machine.specs.declared.Cycles.{Cycles}
 use Rattle.machine.specs.declared.Registers.{Registers}
+
+-- a counter of 0, and CCV 0 for the next record
+abbrev pub noCycles : Cycles
+noCycles = record { counter = 0; ccv = false }
 
 -- at reset the mode is M and all else is 0
 abbrev pub resetRegisters : Registers
@@ -18,23 +23,27 @@ resetRegisters =
       buffer = record { code = 0; wrptr = 0; frozen = false };
       selects = record { siselect = 0; vsiselect = 0 };
       enables = record { mstateen0 = false; hstateen0 = false };
+      cycles = noCycles;
     }
 
 -- the registers with another mode, or with another group of registers
 abbrev pub withMode : Registers → Mode → Registers
-withMode r m = record { mode = m; controls = r .controls; buffer = r .buffer; selects = r .selects; enables = r .enables }
+withMode r m = record { mode = m; controls = r .controls; buffer = r .buffer; selects = r .selects; enables = r .enables; cycles = r .cycles }
 
 abbrev pub withControls : Registers → ControlWords → Registers
-withControls r c = record { mode = r .mode; controls = c; buffer = r .buffer; selects = r .selects; enables = r .enables }
+withControls r c = record { mode = r .mode; controls = c; buffer = r .buffer; selects = r .selects; enables = r .enables; cycles = r .cycles }
 
 abbrev pub withBuffer : Registers → Buffer → Registers
-withBuffer r b = record { mode = r .mode; controls = r .controls; buffer = b; selects = r .selects; enables = r .enables }
+withBuffer r b = record { mode = r .mode; controls = r .controls; buffer = b; selects = r .selects; enables = r .enables; cycles = r .cycles }
 
 abbrev pub withSelects : Registers → Selects → Registers
-withSelects r s = record { mode = r .mode; controls = r .controls; buffer = r .buffer; selects = s; enables = r .enables }
+withSelects r s = record { mode = r .mode; controls = r .controls; buffer = r .buffer; selects = s; enables = r .enables; cycles = r .cycles }
 
 abbrev pub withEnables : Registers → Enables → Registers
-withEnables r e = record { mode = r .mode; controls = r .controls; buffer = r .buffer; selects = r .selects; enables = e }
+withEnables r e = record { mode = r .mode; controls = r .controls; buffer = r .buffer; selects = r .selects; enables = e; cycles = r .cycles }
+
+abbrev pub withCycles : Registers → Cycles → Registers
+withCycles r c = record { mode = r .mode; controls = r .controls; buffer = r .buffer; selects = r .selects; enables = r .enables; cycles = c }
 
 -- the registers with another WRPTR, and with FROZEN set
 abbrev pub withWrptr : Registers → ℕ → Registers

@@ -69,12 +69,19 @@ pub struct Enables {
     pub hstateen0: bool,
 }
 
+// The cycle counter, and the CCV that an ordinary record would now get.
+pub struct Cycles {
+    pub counter: u64,
+    pub ccv: bool,
+}
+
 // All small state, in groups. Any value of the fields is possible.
 pub struct Registers {
     pub mode: Mode,
     pub controls: ControlWords,
     pub buffer: Buffer,
     pub selects: Selects,
+    pub cycles: Cycles,
     pub enables: Enables,
 }
 
@@ -85,12 +92,14 @@ pub struct Entry {
     pub ctrdata: u64,
 }
 
-// A retired word; a 16-bit one in the low half.
+// A retired word; a 16-bit one in the low half. Its cycles are those since the event before it; so of the
+// other two below.
 pub struct RetiredWord {
     pub word: u32,
     pub pc: u64,
     pub target: u64,
     pub taken: bool,
+    pub cycles: u32,
 }
 
 // A trap to a mode.
@@ -100,6 +109,7 @@ pub struct TrapTo {
     pub cause: u64,
     pub epc: u64,
     pub handler: u64,
+    pub cycles: u32,
 }
 
 // A trap return to a mode.
@@ -107,6 +117,7 @@ pub struct ReturnTo {
     pub mode: Mode,
     pub pc: u64,
     pub target: u64,
+    pub cycles: u32,
 }
 
 pub enum Operation {

@@ -1,12 +1,23 @@
 // The registers at reset, and with one group or field changed.
 ghost use mathlib.Core.Path.{_≡_};
-ghost use Rattle.machine.specs.Regs.{resetRegisters, withMode, withControls, withBuffer, withSelects, withWrptr, withFrozen, withEnables};
+ghost use Rattle.machine.specs.Regs.{resetRegisters, withMode, withControls, withBuffer, withSelects, withWrptr, withFrozen, withEnables, withCycles, noCycles};
 use crate::Buffer;
 use crate::ControlWords;
+use crate::Cycles;
 use crate::Enables;
 use crate::Mode;
 use crate::Registers;
 use crate::Selects;
+
+// A counter of 0, and CCV 0 for the next record.
+pub fn no_cycles() -> Cycles
+    ensures { λ c. ⌜ c ≡ noCycles ⌝ }
+{
+    Cycles {
+        counter: 0,
+        ccv: false,
+    }
+}
 
 pub fn reset() -> Registers
     ensures { λ r. ⌜ r ≡ resetRegisters ⌝ }
@@ -28,12 +39,17 @@ pub fn reset() -> Registers
         mstateen0: false,
         hstateen0: false,
     };
+    let cycles = Cycles {
+        counter: 0,
+        ccv: false,
+    };
     Registers {
         mode: Mode::M,
         controls,
         buffer,
         selects,
         enables,
+        cycles,
     }
 }
 
@@ -44,12 +60,14 @@ pub fn with_mode(r: Registers, m: Mode) -> Registers
     let buffer = r.buffer;
     let selects = r.selects;
     let enables = r.enables;
+    let cycles = r.cycles;
     Registers {
         mode: m,
         controls,
         buffer,
         selects,
         enables,
+        cycles,
     }
 }
 
@@ -99,5 +117,22 @@ pub fn with_enables(r: Registers, e: Enables) -> Registers
 {
     let mut q = r;
     q.enables = e;
+    q
+}
+
+pub fn with_cycles(r: Registers, c: Cycles) -> Registers
+    ensures { λ q. ⌜ q ≡ withCycles r c ⌝ }
+{
+    let mut q = r;
+    q.cycles = c;
+    q
+}
+
+pub fn with_no_cycles(r: Registers) -> Registers
+    ensures { λ q. ⌜ q ≡ withCycles r noCycles ⌝ }
+{
+    let mut q = r;
+    q.cycles.counter = 0;
+    q.cycles.ccv = false;
     q
 }

@@ -26,15 +26,13 @@ trap-outcomes =
       external = (λ freezes frozen rasemu source external inhibited inhibited′. refl);
     }
 
-freezes-to : (r : Registers) (w : ℕ) (m : Mode) (interrupt : Bool) (cause epc handler : ℕ) → isVirtual m ≡ false
-    → let t : TrapTo = record { mode = m; interrupt = interrupt; cause = cause; epc = epc; handler = handler } in
-    freezesOf r t ≡ freezesOf (withVsctrctl r w) t
+freezes-to : (r : Registers) (w : ℕ) (t : TrapTo) (m : Mode) → t .mode ≡ m → isVirtual m ≡ false → freezesOf r t ≡ freezesOf (withVsctrctl r w) t
 unfolding freezesOf controlOf isSet
-freezes-to r w U interrupt cause epc handler h = refl
-freezes-to r w S interrupt cause epc handler h = refl
-freezes-to r w M interrupt cause epc handler h = refl
-freezes-to r w VU interrupt cause epc handler h = absurd (false≢true (sym h))
-freezes-to r w VS interrupt cause epc handler h = absurd (false≢true (sym h))
+freezes-to r w t U e h = rw e
+freezes-to r w t S e h = rw e
+freezes-to r w t M e h = rw e
+freezes-to r w t VU e h = absurd (false≢true (sym h))
+freezes-to r w t VS e h = absurd (false≢true (sym h))
 
 external : (r : Registers) (w : ℕ) (source target : Mode)
     → isVU source ≡ false → isVirtual target ≡ false → externalOf r source target ≡ externalOf (withVsctrctl r w) source target
@@ -56,7 +54,7 @@ external r w source VS h e = absurd (false≢true (sym e))
 pub of-mctrctl : OfMctrctl
 of-mctrctl =
     record {
-      freezes = (λ r w t h. freezes-to r w (t .mode) (t .interrupt) (t .cause) (t .epc) (t .handler) h);
+      freezes = (λ r w t h. freezes-to r w t (t .mode) refl h);
       external = external;
     }
 

@@ -31,7 +31,7 @@ fn stack_outcome(number: u64) -> Outcome
 }
 
 // Whether the register that governs a transition has RASEMU.
-fn rasemu(r: Registers, source: Mode, target: Mode) -> bool
+pub fn rasemu(r: Registers, source: Mode, target: Mode) -> bool
     ensures { λ b. ⌜ b ≡ rasemuOf r source target ⌝ }
 {
     is_set(r, governing(source, target), ControlBit::RASEMU)

@@ -1,4 +1,5 @@
 -- What an event decides, given the registers and the entry that it is about.
+use mathlib.Core.Bool.{Bool}
 use Rattle.bits.specs.Choice.{if_then_else_}
 use Rattle.machine.specs.Answers.{refused}
 use Rattle.machine.specs.Good.{goodOf}
@@ -21,6 +22,9 @@ eventOf r old (Access a) = accessOf r old a
 eventOf r old Sctrclr = sctrclrOf r
 eventOf r old (Host h) = hostOf r h
 
--- number 5 is looked for first, whatever the event
+-- number 5 is looked for first, whatever the event; here what is found is given
+abbrev pub decideWith : Bool → Registers → Entry → Event → Decision
+decideWith good r old e = if good then eventOf r old e else refused r BadState
+
 unfoldable pub decideOf : Registers → Entry → Event → Decision
-decideOf r old e = if goodOf r then eventOf r old e else refused r BadState
+decideOf r old e = decideWith (goodOf r) r old e

@@ -22,7 +22,7 @@ atWrptr b = b .wrptr % depthOf (b .code)
 -- the physical entry that an event is about: of a retired word that of its outcome, the one at WRPTR of a trap or return, the
 -- selected one of an access. The others are about no entry alone
 unfoldable pub focusOf : Registers → Event → ℕ
-focusOf r (Retired w) = outcomeFocus r (retiredOutcome r (typeIn r w))
+focusOf r (Retired w) = outcomeFocus (r .buffer) (retiredOutcome r (typeIn r w))
 focusOf r (Trap x) = atWrptr (r .buffer)
 focusOf r (TrapReturn x) = atWrptr (r .buffer)
 focusOf r (Access a) = accessFocus r (a .number)

@@ -7,12 +7,13 @@ use Rattle.machine.specs.declared.Outcome.{Outcome}
 use Rattle.machine.specs.declared.Entry.{Entry}
 use Rattle.transfers.specs.Transfers.{outcomeFocus, doneOf}
 use Rattle.recorder.specs.Events.{focusOf}
-use Rattle.recorder.specs.Decisions.{decideOf}
+use Rattle.recorder.specs.Decisions.{decideWith, decideOf}
 use Rattle.recorder.specs.Entries.{Entries, entriesOf, cleared, entryAt, appliedOf, Filled}
 use Rattle.machine.specs.declared.Event.{Event}
 use Rattle.recorder.specs.declared.State.{State}
 use Rattle.recorder.specs.declared.Stepped.{Stepped}
 use Rattle.recorder.specs.declared.Answered.{Answered}
+use mathlib.Core.Bool.{Bool}
 
 -- a state of registers and entries, and its entries
 abbrev pub stateOf : Registers → Entries → State
@@ -29,9 +30,15 @@ decidedOf s e = decideOf (s .registers) (entryAt (entriesIn s) (focusOf (s .regi
 unfoldable pub appliedTo : Entries → Decision → ℕ → Stepped
 appliedTo w d i = record { number = d .number; value = d .value; state = stateOf (d .registers) (appliedOf w (d .effect) i) }
 
--- an outcome done on the physical entry that it is about, with the record e that it would put
-unfoldable pub outcomeTo : Entries → Registers → Entry → Outcome → Stepped
-outcomeTo w r e o = let i = outcomeFocus r o in appliedTo w (doneOf r (entryAt w i) e o) i
+-- an outcome done on the physical entry that it is about, with the record e that it would put, under RASEMU or not
+unfoldable pub outcomeTo : Entries → Registers → Entry → Bool → Outcome → Stepped
+outcomeTo w r e rasemu o = let i = outcomeFocus (r .buffer) o in appliedTo w (doneOf r (entryAt w i) e rasemu o) i
+
+-- one event, where what is found of number 5 is given
+unfoldable pub stepWith : Bool → State → Event → Stepped
+stepWith good s e =
+    let i = focusOf (s .registers) e in
+    appliedTo (entriesIn s) (decideWith good (s .registers) (entryAt (entriesIn s) i) e) i
 
 -- one event
 unfoldable pub stepOf : State → Event → Stepped

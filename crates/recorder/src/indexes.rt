@@ -20,7 +20,7 @@ pub(crate) fn wrptr_index(r: Registers) -> usize
 // The entry that an outcome is about.
 pub(crate) fn outcome_index(r: Registers, o: Outcome) -> usize
     ensures within { λ n. ⌜ n < entries ⌝ }
-    ensures focused { λ n. ⌜ n ≡ outcomeFocus r o ⌝ }
+    ensures focused { λ n. ⌜ n ≡ outcomeFocus (r .buffer) o ⌝ }
 {
     transfers::decisions::focus(r, o) as usize
 }

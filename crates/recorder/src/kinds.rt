@@ -9,7 +9,7 @@ ghost use Rattle.machine.specs.declared.Verdict.the-variants.{BadState};
 ghost use Rattle.qualifying.specs.Outcomes.{liveOf};
 ghost use Rattle.recorder.specs.Entries.{entries, entriesOf, entryAt, appliedOf};
 ghost use Rattle.recorder.specs.Events.{typeIn};
-ghost use Rattle.recorder.specs.Steps.{stateOf, stepped, appliedTo, outcomeTo, answeredBy, stepOf};
+ghost use Rattle.recorder.specs.Steps.{stateOf, stepped, appliedTo, outcomeTo, answeredBy, stepWith, stepOf};
 use crate::Answered;
 use crate::ENTRIES;
 use crate::indexes::access_index;
@@ -31,6 +31,8 @@ use machine::answers::refuse;
 use machine::good::is_good;
 use qualifying::outcomes::is_live;
 use qualifying::outcomes::live_outcome;
+use qualifying::outcomes::rasemu;
+use transfers::counts::tally_live;
 use transfers::decisions::done;
 use transfers::records::entry_for;
 
@@ -125,24 +127,25 @@ fn word_type(r: Registers, w: RetiredWord) -> u64
     widened(classifier::type_number(classifier::classify(w.word), w.taken))
 }
 
-// An outcome, with the record e that it would put.
+// An outcome, from registers with the counter as the event finds it, with the record e that it would put.
 fn perform(
     ctrsource: &mut [u64; ENTRIES],
     ctrtarget: &mut [u64; ENTRIES],
     ctrdata: &mut [u64; ENTRIES],
     r: Registers,
     e: Entry,
+    rasemu: bool,
     o: Outcome,
 ) -> Answered
-    ensures { λ q. ⌜ stepped q (entriesOf (now (ctrsource .exit)) (now (ctrtarget .exit)) (now (ctrdata .exit))) ≡ outcomeTo (entriesOf (now (ctrsource .entry)) (now (ctrtarget .entry)) (now (ctrdata .entry))) r e o ⌝ }
+    ensures { λ q. ⌜ stepped q (entriesOf (now (ctrsource .exit)) (now (ctrtarget .exit)) (now (ctrdata .exit))) ≡ outcomeTo (entriesOf (now (ctrsource .entry)) (now (ctrtarget .entry)) (now (ctrdata .entry))) r e rasemu o ⌝ }
 {
     let at = outcome_index(r, o);
     let old = entry_at(ctrsource, ctrtarget, ctrdata, at);
-    let d = done(r, old, e, o);
+    let d = done(r, old, e, rasemu, o);
     apply(ctrsource, ctrtarget, ctrdata, d, at)
 }
 
-// A word retired where recording is live: it is sorted only then.
+// A word retired where recording is live, from registers free of number 5: it is sorted only then.
 fn retire_live(
     ctrsource: &mut [u64; ENTRIES],
     ctrtarget: &mut [u64; ENTRIES],
@@ -150,14 +153,16 @@ fn retire_live(
     r: Registers,
     w: RetiredWord,
 ) -> Answered
-    requires good { ⌜ goodOf r ≡ true ⌝ }
-    requires live { ⌜ liveOf r ≡ true ⌝ }
-    ensures { λ q. ⌜ stepOf (stateOf r (entriesOf (now (ctrsource .entry)) (now (ctrtarget .entry)) (now (ctrdata .entry)))) (Retired w) ≡ stepped q (entriesOf (now (ctrsource .exit)) (now (ctrtarget .exit)) (now (ctrdata .exit))) ⌝ }
+    requires { ⌜ liveOf r ≡ true ⌝ }
+    ensures { λ q. ⌜ stepWith true (stateOf r (entriesOf (now (ctrsource .entry)) (now (ctrtarget .entry)) (now (ctrdata .entry)))) (Retired w) ≡ stepped q (entriesOf (now (ctrsource .exit)) (now (ctrtarget .exit)) (now (ctrdata .exit))) ⌝ }
 {
     let n = word_type(r, w);
     let o = live_outcome(r, n);
     let e = entry_for(w.pc, w.target, n);
-    perform(ctrsource, ctrtarget, ctrdata, r, e, o)
+    let m = r.mode;
+    let ra = rasemu(r, m, m);
+    let q = tally_live(r, ra, w.cycles);
+    perform(ctrsource, ctrtarget, ctrdata, q, e, ra, o)
 }
 
 fn retire_good(
@@ -167,13 +172,30 @@ fn retire_good(
     r: Registers,
     w: RetiredWord,
 ) -> Answered
-    requires { ⌜ goodOf r ≡ true ⌝ }
-    ensures { λ q. ⌜ stepOf (stateOf r (entriesOf (now (ctrsource .entry)) (now (ctrtarget .entry)) (now (ctrdata .entry)))) (Retired w) ≡ stepped q (entriesOf (now (ctrsource .exit)) (now (ctrtarget .exit)) (now (ctrdata .exit))) ⌝ }
+    ensures { λ q. ⌜ stepWith true (stateOf r (entriesOf (now (ctrsource .entry)) (now (ctrtarget .entry)) (now (ctrdata .entry)))) (Retired w) ≡ stepped q (entriesOf (now (ctrsource .exit)) (now (ctrtarget .exit)) (now (ctrdata .exit))) ⌝ }
 {
     if is_live(r) {
         retire_live(ctrsource, ctrtarget, ctrdata, r, w)
     } else {
         answered(accept(r, 0))
+    }
+}
+
+// A retired word, for a caller that has looked for number 5: whether the registers are free of it is given.
+pub fn retire_with(
+    ctrsource: &mut [u64; ENTRIES],
+    ctrtarget: &mut [u64; ENTRIES],
+    ctrdata: &mut [u64; ENTRIES],
+    r: Registers,
+    w: RetiredWord,
+    good: bool,
+) -> Answered
+    ensures { λ q. ⌜ stepWith good (stateOf r (entriesOf (now (ctrsource .entry)) (now (ctrtarget .entry)) (now (ctrdata .entry)))) (Retired w) ≡ stepped q (entriesOf (now (ctrsource .exit)) (now (ctrtarget .exit)) (now (ctrdata .exit))) ⌝ }
+{
+    if good {
+        retire_good(ctrsource, ctrtarget, ctrdata, r, w)
+    } else {
+        refuse_bad(r)
     }
 }
 
@@ -187,11 +209,8 @@ pub fn retire(
 ) -> Answered
     ensures { λ q. ⌜ stepOf (stateOf r (entriesOf (now (ctrsource .entry)) (now (ctrtarget .entry)) (now (ctrdata .entry)))) (Retired w) ≡ stepped q (entriesOf (now (ctrsource .exit)) (now (ctrtarget .exit)) (now (ctrdata .exit))) ⌝ }
 {
-    if is_good(r) {
-        retire_good(ctrsource, ctrtarget, ctrdata, r, w)
-    } else {
-        refuse_bad(r)
-    }
+    let good = is_good(r);
+    retire_with(ctrsource, ctrtarget, ctrdata, r, w, good)
 }
 
 fn trap_good(

@@ -72,6 +72,7 @@ fn return_to(mode: Mode) -> Event {
         mode,
         pc: 0x4000,
         target: 0x5000,
+        cycles: 0,
     })
 }
 
@@ -86,6 +87,7 @@ fn trap_to(mode: Mode) -> Event {
         cause: 8,
         epc: 0x6000,
         handler: 0x7000,
+        cycles: 0,
     })
 }
 
@@ -95,6 +97,7 @@ fn jal() -> Event {
         pc: 0x1000,
         target: 0x2000,
         taken: false,
+        cycles: 0,
     })
 }
 
@@ -104,6 +107,7 @@ fn function_return() -> Event {
         pc: 0x3000,
         target: 0x1004,
         taken: false,
+        cycles: 0,
     })
 }
 

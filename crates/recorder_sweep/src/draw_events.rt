@@ -154,12 +154,29 @@ fn word_of(w: u64) -> u32 {
     }
 }
 
-fn retired(w: u64, pc: u64, target: u64, taken: bool) -> Event {
+// Cycles: none, one, at the ends of what is coded exactly and of what the counter holds, all that a row
+// can have, few, or any number of any length.
+pub(crate) fn cycles(n: u64) -> u32 {
+    match n % 16 {
+        0 => 0,
+        1 => 1,
+        2 => 4095,
+        3 => 4096,
+        4 => 0x400_0000,
+        5 => 0x7FF_FFFF,
+        6 => 0xFFFF_FFFF,
+        7..=9 => (n / 16 % 64) as u32,
+        _ => (n / 16 % 0x1_0000_0000) as u32 >> (n / 0x1_0000_0000_0000 % 32),
+    }
+}
+
+fn retired(w: u64, pc: u64, target: u64, taken: bool, n: u64) -> Event {
     Event::Retired(RetiredWord {
         word: word_of(w),
         pc,
         target,
         taken,
+        cycles: cycles(n),
     })
 }
 
@@ -168,9 +185,10 @@ pub(crate) fn draw_word(random: u64) -> Drawn {
     let w = xorshift64(random);
     let pc = xorshift64(w);
     let target = xorshift64(pc);
+    let n = xorshift64(target);
     Drawn {
-        event: retired(w, address(pc), address(target), w / 256 % 2 == 1),
-        random: target,
+        event: retired(w, address(pc), address(target), w / 256 % 2 == 1, n),
+        random: n,
     }
 }
 
@@ -239,13 +257,14 @@ fn cause_of(choice: u64, z: u64) -> u64 {
     if at < 15 { CAUSES[at] } else { z }
 }
 
-fn trap(mode: Mode, c: u64, z: u64, epc: u64, handler: u64) -> Event {
+fn trap(mode: Mode, c: u64, z: u64, epc: u64, handler: u64, n: u64) -> Event {
     Event::Trap(TrapTo {
         mode: trap_target(mode, c),
         interrupt: c / 16 % 2 == 1,
         cause: cause_of(c / 32, z),
         epc,
         handler,
+        cycles: cycles(n),
     })
 }
 
@@ -291,11 +310,12 @@ fn resize(z: u64) -> Event {
     })
 }
 
-fn trap_return(mode: Mode, c: u64, pc: u64, target: u64) -> Event {
+fn trap_return(mode: Mode, c: u64, pc: u64, target: u64, n: u64) -> Event {
     Event::TrapReturn(ReturnTo {
         mode: return_target(mode, c),
         pc,
         target,
+        cycles: cycles(n),
     })
 }
 
@@ -306,12 +326,12 @@ fn host(c: u64) -> Event {
     })
 }
 
-fn event_of(mode: Mode, k: u64, w: u64, x: u64, y: u64, z: u64) -> Event {
+fn event_of(mode: Mode, k: u64, w: u64, x: u64, y: u64, z: u64, n: u64) -> Event {
     let c = k / 64;
     match k % 64 {
-        0..=29 => retired(w, x, y, c % 2 == 1),
-        30..=37 => trap(mode, c, z, x, y),
-        38..=45 => trap_return(mode, c, x, y),
+        0..=29 => retired(w, x, y, c % 2 == 1, n),
+        30..=37 => trap(mode, c, z, x, y, n),
+        38..=45 => trap_return(mode, c, x, y, n),
         46..=57 => access(c, w, z),
         58 => resize(z),
         59..=61 => thaw(z),
@@ -327,8 +347,9 @@ pub(crate) fn draw_event(random: u64, mode: Mode) -> Drawn {
     let x = xorshift64(w);
     let y = xorshift64(x);
     let z = xorshift64(y);
+    let n = xorshift64(z);
     Drawn {
-        event: event_of(mode, k, w, address(x), address(y), z),
-        random: z,
+        event: event_of(mode, k, w, address(x), address(y), z, n),
+        random: n,
     }
 }

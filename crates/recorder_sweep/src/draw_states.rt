@@ -2,11 +2,13 @@
 use crate::edges::RASEMU_AND_TRETINH;
 use machine::Buffer;
 use machine::ControlWords;
+use machine::Cycles;
 use machine::Enables;
 use machine::Registers;
 use machine::Selects;
 use machine::controls::MCTRCTL_MASK;
 use machine::controls::SCTRCTL_MASK;
+use machine::good::COUNTER_LIMIT;
 use machine::regs::with_controls;
 use recorder::ENTRIES;
 use std::num::wrapping_add_u64;
@@ -60,6 +62,22 @@ fn enables_of(a: u64) -> Enables {
     }
 }
 
+// A counter that is 0, at its top, or of any length.
+fn counter_of(g: u64) -> u64 {
+    match g % 4 {
+        0 => 0,
+        1 => COUNTER_LIMIT - 1,
+        _ => g / 8 % COUNTER_LIMIT >> (g / 0x8_0000_0000 % 27),
+    }
+}
+
+fn good_cycles(g: u64) -> Cycles {
+    Cycles {
+        counter: counter_of(g),
+        ccv: g / 4 % 2 == 1,
+    }
+}
+
 // A number from the least on: that one, the largest, one near or one anywhere.
 fn from_up(least: u64, d: u64) -> u64 {
     match d % 4 {
@@ -70,7 +88,7 @@ fn from_up(least: u64, d: u64) -> u64 {
     }
 }
 
-// One of four is spoiled, in one of the four ways that number 5 is about.
+// Five of sixteen are spoiled, in one of the five ways that number 5 is about.
 fn spoiled_buffer(b: Buffer, choice: u64, d: u64) -> Buffer {
     let mut q = b;
     match choice % 16 {
@@ -91,22 +109,33 @@ fn spoiled_controls(c: ControlWords, choice: u64) -> ControlWords {
     q
 }
 
+fn spoiled_cycles(c: Cycles, choice: u64, d: u64) -> Cycles {
+    let mut q = c;
+    match choice % 16 {
+        4 => q.counter = from_up(COUNTER_LIMIT, d),
+        _ => {}
+    }
+    q
+}
+
 pub(crate) fn draw_registers(random: u64) -> Start {
     let a = xorshift64(random);
     let b = xorshift64(a);
     let c = xorshift64(b);
     let d = xorshift64(c);
     let f = xorshift64(d);
+    let g = xorshift64(f);
     let registers = Registers {
         mode: mode_of(a % 5),
         controls: spoiled_controls(good_controls(a, b, c), a / 12800),
         buffer: spoiled_buffer(good_buffer(a, d), a / 12800, d),
         selects: selects_of(f),
         enables: enables_of(a),
+        cycles: spoiled_cycles(good_cycles(g), a / 12800, d),
     };
     Start {
         registers,
-        random: f,
+        random: g,
     }
 }
 

@@ -14,6 +14,30 @@ struct Addresses {
     target: u64,
 }
 
+// The cycles of a retired word, a trap or a trap return; other events have none.
+pub(crate) fn cycles_of(e: Event) -> u32 {
+    match e {
+        Event::Retired(w) => w.cycles,
+        Event::Trap(t) => t.cycles,
+        Event::TrapReturn(t) => t.cycles,
+        _ => 0,
+    }
+}
+
+pub(crate) fn is_access(e: Event) -> bool {
+    match e {
+        Event::Access(_) => true,
+        _ => false,
+    }
+}
+
+pub(crate) fn is_sctrclr(e: Event) -> bool {
+    match e {
+        Event::Sctrclr => true,
+        _ => false,
+    }
+}
+
 pub(crate) fn is_retired(e: Event) -> bool {
     match e {
         Event::Retired(_) => true,
@@ -78,15 +102,21 @@ fn both_off(a: Registers, b: Registers, to: Mode) -> BothOff {
     }
 }
 
-fn trap_with(t: TrapTo, off: BothOff, source: u64, target: u64) -> Event {
+fn chosen_cycles(is_other: bool, cycles: u32, other: u32) -> u32 {
+    if is_other { other } else { cycles }
+}
+
+fn trap_with(t: TrapTo, off: BothOff, source: u64, target: u64, cycles: u32) -> Event {
     let mut u = t;
+    u.cycles = chosen_cycles(off.source, t.cycles, cycles);
     u.epc = chosen(off.source, t.epc, source);
     u.handler = chosen(off.target, t.handler, target);
     Event::Trap(u)
 }
 
-fn return_with(t: ReturnTo, off: BothOff, source: u64, target: u64) -> Event {
+fn return_with(t: ReturnTo, off: BothOff, source: u64, target: u64, cycles: u32) -> Event {
     let mut u = t;
+    u.cycles = chosen_cycles(off.source, t.cycles, cycles);
     u.pc = chosen(off.source, t.pc, source);
     u.target = chosen(off.target, t.target, target);
     Event::TrapReturn(u)
@@ -101,21 +131,23 @@ fn mode_to(e: Event) -> Mode {
     }
 }
 
-fn event_with(e: Event, off: BothOff, source: u64, target: u64) -> Event {
+fn event_with(e: Event, off: BothOff, source: u64, target: u64, cycles: u32) -> Event {
     match e {
-        Event::Trap(t) => trap_with(t, off, source, target),
-        Event::TrapReturn(t) => return_with(t, off, source, target),
+        Event::Trap(t) => trap_with(t, off, source, target, cycles),
+        Event::TrapReturn(t) => return_with(t, off, source, target, cycles),
         _ => e,
     }
 }
 
-// The event that run B gets for A's: with other addresses where that side is off in both runs.
+// The event that run B gets for A's: with other addresses where that side is off in both runs, and with
+// other cycles where the source side is.
 pub(crate) fn with_addresses(
     e: Event,
     a: Registers,
     b: Registers,
     source: u64,
     target: u64,
+    cycles: u32,
 ) -> Event {
-    event_with(e, both_off(a, b, mode_to(e)), source, target)
+    event_with(e, both_off(a, b, mode_to(e)), source, target, cycles)
 }

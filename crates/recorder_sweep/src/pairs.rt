@@ -1,11 +1,13 @@
-// Pairs of lists that differ only where modes are off: in words retired there, which are struck, and
-// in addresses on their side. The answers left and the end states have to be equal. Run A is in
-// place, run B by value.
+// Pairs of lists that differ only where modes are off: in words retired there, which are struck, in
+// addresses on their side, and in the cycles of traps and returns from them. The answers left and the
+// end states have to be equal. Run A is in place, run B by value.
 use crate::draw_events::address;
+use crate::draw_events::cycles;
 use crate::draw_events::draw_event;
 use crate::draw_events::draw_word;
 use crate::draw_states::draw_entries;
 use crate::draw_states::draw_registers;
+use crate::events::cycles_of;
 use crate::events::differing_addresses;
 use crate::events::is_off;
 use crate::events::is_retired;
@@ -37,6 +39,7 @@ struct Tally {
     struck_to_nothing: u64,
     words_struck: u64,
     addresses_differed: u64,
+    cycles_differed: u64,
     events_left: u64,
     answers_unequal: u64,
     end_states_unequal: u64,
@@ -193,15 +196,18 @@ fn run_shared(
     let e = drawn.event;
     let source = xorshift64(drawn.random);
     let target = xorshift64(source);
-    let other = with_addresses(e, r, q, address(source), address(target));
+    let n = xorshift64(target);
+    let other = with_addresses(e, r, q, address(source), address(target), cycles(n));
     let a = step_in_place(ctrsource, ctrtarget, ctrdata, r, e);
     let b = step(s, other);
     let same = a.number == b.number && a.value == b.value;
     let struck = times_struck(e, r, q);
     let mut tally = tallied(p.tally, struck, same, a.number, a.value);
-    tally.random = target;
+    tally.random = n;
     let differed = differing_addresses(e, other);
     tally.addresses_differed = wrapping_add_u64(tally.addresses_differed, differed);
+    let other_cycles = flag(cycles_of(e) != cycles_of(other));
+    tally.cycles_differed = wrapping_add_u64(tally.cycles_differed, other_cycles);
     let registers = a.registers;
     let state = b.state;
     Pair {
@@ -305,6 +311,7 @@ fn run_pairs() -> Tally {
         struck_to_nothing: 0,
         words_struck: 0,
         addresses_differed: 0,
+        cycles_differed: 0,
         events_left: 0,
         answers_unequal: 0,
         end_states_unequal: 0,
@@ -328,6 +335,7 @@ pub(crate) fn report() {
     at = put_count(&mut out, at, b"  struck to nothing ", t.struck_to_nothing);
     at = put_count(&mut out, at, b"  words struck ", t.words_struck);
     at = put_count(&mut out, at, b"  addresses differed ", t.addresses_differed);
+    at = put_count(&mut out, at, b"  cycles differed ", t.cycles_differed);
     at = put_count(&mut out, at, b"  events left ", t.events_left);
     at = put_count(&mut out, at, b"  answers unequal ", t.answers_unequal);
     at = put_count(&mut out, at, b"  end states unequal ", t.end_states_unequal);

@@ -1,4 +1,8 @@
 // Long lists of random events, each from a random state.
+use crate::counts::Counts;
+use crate::counts::no_counts;
+use crate::counts::put_counts_met;
+use crate::counts::with_answered;
 use crate::depths::Depths;
 use crate::depths::no_depths;
 use crate::depths::put_depths;
@@ -13,6 +17,7 @@ use crate::edges::put_edges;
 use crate::events::is_transfer;
 use libc::STDOUT_FILENO;
 use machine::Buffer;
+use machine::Event;
 use machine::Mode;
 use machine::Registers;
 use machine::answers::number_index;
@@ -39,6 +44,7 @@ struct Tally {
     values: [u64; 5],
     edges: [u64; CELLS],
     depths: Depths,
+    counts: Counts,
     answers: u64,
     states: u64,
 }
@@ -111,6 +117,27 @@ fn with_depths(
     next
 }
 
+// What the counter met in a step that was answered, likewise.
+fn with_counts(
+    t: Tally,
+    good: bool,
+    e: Event,
+    ctrdata: &[u64; ENTRIES],
+    before: Registers,
+    after: Registers,
+    number: u64,
+    value: u64,
+) -> Tally {
+    let mut next = t;
+    if good && number == 0 {
+        let s = t.counts;
+        let at = (before.buffer.wrptr % 256) as usize;
+        let counts = with_answered(s, e, is_transfer(e), ctrdata[at], before, after, value);
+        next.counts = counts;
+    }
+    next
+}
+
 fn started(t: Tally, random: u64, good: bool) -> Tally {
     let mut next = t;
     next.random = random;
@@ -140,6 +167,7 @@ fn run_event(
     let value = transfer_value(transfer, a.number, a.value);
     let deepest = larger(l.deepest, before.code);
     tally = with_depths(tally, l.good, ctrsource, before, after, value, deepest);
+    tally = with_counts(tally, l.good, e, ctrdata, r, registers, a.number, a.value);
     tally.random = drawn.random;
     tally.frozen = wrapping_add_u64(tally.frozen, flag(r.buffer.frozen));
     tally.states = digest_state(tally.states, registers, ctrsource, ctrtarget, ctrdata);
@@ -183,6 +211,7 @@ fn run_lists() -> Tally {
         values: [0; 5],
         edges: [0; CELLS],
         depths: no_depths(),
+        counts: no_counts(),
         answers: 0,
         states: 0,
     };
@@ -198,15 +227,22 @@ fn put_answers(out: &mut [u8], at: usize, numbers: [u64; 6], values: [u64; 5]) -
     put_counts(out, next, b"  value ", &values)
 }
 
-// The edges and the depths that were met.
-fn put_met(out: &mut [u8], at: usize, edges: [u64; CELLS], depths: Depths) -> usize {
-    let next = put_edges(out, at, edges);
-    put_depths(out, next, depths)
+// The edges, the depths and the counts that were met.
+fn put_met(
+    out: &mut [u8],
+    at: usize,
+    edges: [u64; CELLS],
+    depths: Depths,
+    counts: Counts,
+) -> usize {
+    let mut next = put_edges(out, at, edges);
+    next = put_depths(out, next, depths);
+    put_counts_met(out, next, counts)
 }
 
 pub(crate) fn report() {
     let t = run_lists();
-    let mut out = [0u8; 2048];
+    let mut out = [0u8; 4096];
     let mut at = text::put(&mut out, 0, b"random run\n");
     at = put_count(&mut out, at, b"  lists ", LISTS);
     at = put_count(&mut out, at, b"  bad starts ", t.bad_starts);
@@ -216,8 +252,9 @@ pub(crate) fn report() {
     let values = t.values;
     let edges = t.edges;
     let depths = t.depths;
+    let counts = t.counts;
     at = put_answers(&mut out, at, numbers, values);
-    at = put_met(&mut out, at, edges, depths);
+    at = put_met(&mut out, at, edges, depths, counts);
     at = put_word(&mut out, at, b"  answers 0x", t.answers);
     at = put_word(&mut out, at, b"  states 0x", t.states);
     io::write_all(STDOUT_FILENO, text::before(&out, at));

@@ -12,11 +12,12 @@ use machine::depths::physical;
 use recorder::ENTRIES;
 use trace::codes::flag;
 use trace::codes::mode_code;
+use transfers::counts::decoded;
 
 // How often each number was answered, then how often each value; each with a place for all others.
 pub(crate) const COUNTS: usize = 13;
 
-const REGISTERS: usize = 8;
+const REGISTERS: usize = 10;
 
 // The words of count k.
 fn put_words(out: &mut [u8], at: usize, k: u64) -> usize {
@@ -81,6 +82,8 @@ fn register_words(r: Registers) -> [u64; REGISTERS] {
         r.selects.vsiselect,
         flag(r.enables.mstateen0),
         flag(r.enables.hstateen0),
+        r.cycles.counter,
+        flag(r.cycles.ccv),
     ]
 }
 
@@ -89,7 +92,7 @@ fn put_register(out: &mut [u8], at: usize, k: u64, x: u64) -> usize {
     let mut next = put_line(
         out,
         at,
-        b"mctrctl \nvsctrctl \nsctrdepth \nsctrstatus \nsiselect \nvsiselect \nmstateen0.CTR \nhstateen0.CTR ",
+        b"mctrctl \nvsctrctl \nsctrdepth \nsctrstatus \nsiselect \nvsiselect \nmstateen0.CTR \nhstateen0.CTR \ncycles \nccv ",
         k,
     );
     next = text::put_short_hex(out, next, x);
@@ -129,12 +132,28 @@ fn put_index(out: &mut [u8], at: usize, i: u64) -> usize {
     text::put_byte(out, next, b' ')
 }
 
-// A line of the history: logical index, addresses and type.
+// The count that ctrdata holds.
+fn put_cycles(out: &mut [u8], at: usize, ctrdata: u64) -> usize {
+    let next = text::put(out, at, b" cycles ");
+    text::put_decimal(out, next, decoded(ctrdata))
+}
+
+// The same where CCV, bit 15, says that it is valid.
+fn put_cycles_if_valid(out: &mut [u8], at: usize, ctrdata: u64) -> usize {
+    if bits::bit(ctrdata, 15) {
+        put_cycles(out, at, ctrdata)
+    } else {
+        at
+    }
+}
+
+// A line of the history: logical index, addresses, type and count.
 fn put_transfer(out: &mut [u8], at: usize, i: u64, e: Entry) -> usize {
     let mut next = put_index(out, at, i);
     next = put_addresses(out, next, e);
     next = text::put_byte(out, next, b' ');
     next = put_type(out, next, bits::low(e.ctrdata, 4));
+    next = put_cycles_if_valid(out, next, e.ctrdata);
     end_line(out, next)
 }
 

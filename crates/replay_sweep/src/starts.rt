@@ -3,17 +3,18 @@ use machine::Registers;
 use machine::depths::depth;
 use recorder::State;
 
-// Good registers made bad, in one of the four ways there are.
+// Good registers made bad, in one of the five ways there are.
 fn made_bad(r: Registers, way: usize) -> Registers {
     let past_last = depth(r.buffer.code);
     let mctrctl = r.controls.mctrctl | 0x8000_0000_0000_0000;
     let vsctrctl = r.controls.vsctrctl | 4;
     let mut q = r;
-    match way % 4 {
+    match way % 5 {
         0 => q.buffer.code = 5,
         1 => q.buffer.wrptr = past_last,
         2 => q.controls.mctrctl = mctrctl,
-        _ => q.controls.vsctrctl = vsctrctl,
+        3 => q.controls.vsctrctl = vsctrctl,
+        _ => q.cycles.counter = 0x800_0000,
     }
     q
 }

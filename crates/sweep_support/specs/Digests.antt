@@ -2,6 +2,7 @@
 use Prim.Native.Nat.{ℕ, zero, suc}
 use Rattle.machine.specs.declared.Buffer.{Buffer}
 use Rattle.machine.specs.declared.ControlWords.{ControlWords}
+use Rattle.machine.specs.declared.Cycles.{Cycles}
 use Rattle.machine.specs.declared.Enables.{Enables}
 use Rattle.machine.specs.declared.Entry.{Entry}
 use Rattle.machine.specs.declared.Registers.{Registers}
@@ -30,11 +31,16 @@ withSelects h s = digested (digested h (s .siselect)) (s .vsiselect)
 unfoldable pub withEnables : ℕ → Enables → ℕ
 withEnables h e = digested (digested h (flagOf (e .mstateen0))) (flagOf (e .hstateen0))
 
+unfoldable pub withCycles : ℕ → Cycles → ℕ
+withCycles h c = digested (digested h (c .counter)) (flagOf (c .ccv))
+
 -- the mode, then each group
 unfoldable pub withRegisters : ℕ → Registers → ℕ
 withRegisters h r =
-    withEnables (withSelects (withBuffer (withControls (digested h (modeCode (r .mode))) (r .controls)) (r .buffer)) (r .selects))
-    (r .enables)
+    withCycles
+    (withEnables (withSelects (withBuffer (withControls (digested h (modeCode (r .mode))) (r .controls)) (r .buffer)) (r .selects))
+    (r .enables))
+    (r .cycles)
 
 -- the first n entries
 unfoldable pub withEntries : ℕ → Entries → ℕ → ℕ

@@ -1,8 +1,9 @@
 // The digest h with an answer, an entry or registers taken in.
 ghost use mathlib.Core.Path.{_≡_};
-ghost use Rattle.sweep_support.specs.Digests.{withAnswer, withEntry, withControls, withBuffer, withSelects, withEnables, withRegisters};
+ghost use Rattle.sweep_support.specs.Digests.{withAnswer, withEntry, withControls, withBuffer, withSelects, withEnables, withCycles, withRegisters};
 use machine::Buffer;
 use machine::ControlWords;
+use machine::Cycles;
 use machine::Enables;
 use machine::Entry;
 use machine::Registers;
@@ -47,6 +48,12 @@ fn digest_enables(h: u64, e: Enables) -> u64
     digest(digest(h, flag(e.mstateen0)), flag(e.hstateen0))
 }
 
+fn digest_cycles(h: u64, c: Cycles) -> u64
+    ensures { λ d. ⌜ d ≡ withCycles h c ⌝ }
+{
+    digest(digest(h, c.counter), flag(c.ccv))
+}
+
 pub fn digest_registers(h: u64, r: Registers) -> u64
     ensures { λ d. ⌜ d ≡ withRegisters h r ⌝ }
 {
@@ -55,9 +62,11 @@ pub fn digest_registers(h: u64, r: Registers) -> u64
     let b = r.buffer;
     let s = r.selects;
     let e = r.enables;
+    let y = r.cycles;
     let mut d = digest(h, mode_code(m));
     d = digest_controls(d, c);
     d = digest_buffer(d, b);
     d = digest_selects(d, s);
-    digest_enables(d, e)
+    d = digest_enables(d, e);
+    digest_cycles(d, y)
 }

@@ -13,13 +13,16 @@ use mathlib.Core.Logic.{inl, inr}
 use Rattle.bits.proofs.Cases.{Known, known}
 use Rattle.bits.specs.Choice.{if_then_else_}
 use Rattle.machine.specs.declared.Event.{Event}
+use Rattle.machine.specs.declared.Event.the-variants.{Retired}
+use Rattle.machine.specs.declared.RetiredWord.{RetiredWord}
 use Rattle.machine.specs.declared.Registers.{Registers}
 use Rattle.recorder.specs.Entries.{Entries}
-use Rattle.recorder.specs.Steps.{stateOf, stepOf, stepped, Whole}
+use Rattle.recorder.specs.Steps.{stateOf, stepWith, stepOf, stepped, Whole}
 use Rattle.recorder.specs.declared.Answered.{Answered}
 use Rattle.recorder.specs.declared.State.{State}
-use Rattle.recorder.proofs.Laws.{whole-kept}
-use Rattle.trace.specs.Rows.{isRetiredRow, retiredRow, rowBy, rowOf}
+use Rattle.machine.specs.Good.{goodOf}
+use Rattle.recorder.proofs.Laws.{whole-kept, good-kept, found-step}
+use Rattle.trace.specs.Rows.{headIn, isRetiredRow, retiredRow, rowBy, rowOf}
 use Rattle.trace.specs.Runs.{rowAt, isRetiredHead, isWellFormed, leading, Run, answered, next, runOf, RowRun, rowRunOf, Replay, unrun, ranOf, replayOf, rowRan, wellFormedAnswer, malformedAnswer}
 use Rattle.trace.specs.declared.Row.{Row}
 use Rattle.trace.specs.declared.Row.the-variants.{WellFormed, Malformed}
@@ -31,6 +34,13 @@ pub run-yes : (s : State) (t b : Bool) (e f : Event) (k : ℕ) (a : Answered) (v
     → rowRunOf s (if b then WellFormed e else Malformed k) ≡ rowRan q v
 unfolding rowRunOf
 run-yes s t b e f k a v q u h p g i = rw (← u, h, ← g, p, i)
+
+-- a retired word, where what is found of number 5 is given
+pub run-given : (w v : Entries) (r : Registers) (g t b : Bool) (x y : RetiredWord) (k : ℕ) (a : Answered) (q : RowRan)
+    → g ≡ goodOf r → t ≡ b → t ≡ true → stepWith g (stateOf r w) (Retired y) ≡ stepped a v → y ≡ x → q ≡ wellFormedAnswer a
+    → rowRunOf (stateOf r w) (if b then WellFormed (Retired x) else Malformed k) ≡ rowRan q v
+run-given w v r g t b x y k a q n u h p i j =
+    run-yes (stateOf r w) t b (Retired x) (Retired y) k a v q u h (found-step w v r (Retired y) g a n p) (ap (λ (z : RetiredWord). Retired z) i) j
 
 pub run-no : (w : Entries) (r : Registers) (t b : Bool) (e : Event) (k : ℕ) (q : RowRan)
     → t ≡ b → t ≡ false → q ≡ malformedAnswer r → rowRunOf (stateOf r w) (if b then WellFormed e else Malformed k) ≡ rowRan q w
@@ -45,14 +55,17 @@ unfolding rowRunOf rowBy
 no-kind v r kind w a b c q h0 h1 h2 h3 h4 h5 i =
     rw (ne-eqb kind 0 h0, ne-eqb kind 1 h1, ne-eqb kind 2 h2, ne-eqb kind 3 h3, ne-eqb kind 4 h4, ne-eqb kind 5 h5, i)
 
--- a row of a retired word, by its word 0
+-- a row of a retired word, by the low half of its word 0, in which the kind is
+low-byte : (w h : ℕ) → headIn w ≡ h → w % 2 ^ 8 ≡ h % 2 ^ 8
+low-byte w h e = omega (arith, e)
+
 head-row : (w a b c : ℕ) → isRetiredHead w ≡ true → rowOf w a b c ≡ retiredRow w a b c
 unfolding isRetiredHead rowOf rowBy
-head-row w a b c h = go (known w 0) (known w 0x100)
+head-row w a b c h = go (known (headIn w) 0) (known (headIn w) 0x100)
   where
-    go : Known w 0 → Known w 0x100 → rowOf w a b c ≡ retiredRow w a b c
-    go (inl e) k = rw e
-    go (inr e) (inl k) = rw k
+    go : Known (headIn w) 0 → Known (headIn w) 0x100 → rowOf w a b c ≡ retiredRow w a b c
+    go (inl e) k = rw (low-byte w 0 e)
+    go (inr e) (inl k) = rw (low-byte w 0x100 k)
     go (inr e) (inr k) = absurd (false≢true (rw (e, k) at h))
 
 pub retired-first : (s : State) (t : Bool) (w a b c : ℕ) (z : RowRun)
@@ -60,20 +73,20 @@ pub retired-first : (s : State) (t : Bool) (w a b c : ℕ) (z : RowRun)
 retired-first s t w a b c z u h p = rw (head-row w a b c (sym u ∙ h)) p
 
 -- of kind 0 there is no other that is well-formed
-large : (w : ℕ) → w % 2 ^ 8 ≡ 0 → isRetiredHead w ≡ false → 2 ^ 9 ≤ w
+large : (w : ℕ) → w % 2 ^ 8 ≡ 0 → isRetiredHead w ≡ false → 2 ^ 9 ≤ headIn w
 unfolding isRetiredHead
-large w k h = go (known w 0) (known w 0x100)
+large w k h = go (known (headIn w) 0) (known (headIn w) 0x100)
   where
-    go : Known w 0 → Known w 0x100 → 2 ^ 9 ≤ w
+    go : Known (headIn w) 0 → Known (headIn w) 0x100 → 2 ^ 9 ≤ headIn w
     go (inl e) j = absurd (false≢true (sym (rw e at h)))
     go (inr e) (inl j) = absurd (false≢true (sym (rw j at h)))
-    go (inr e) (inr j) = omega (arith, k, eqb-false w 0 e, eqb-false w 0x100 j)
+    go (inr e) (inr j) = omega (arith, k, eqb-false (headIn w) 0 e, eqb-false (headIn w) 0x100 j)
 
 pub not-retired : (v : Entries) (r : Registers) (kind w a b c : ℕ) (q : RowRan)
     → kind ≡ 0 → kind ≡ w % 2 ^ 8 → isRetiredHead w ≡ false → q ≡ malformedAnswer r
     → rowRunOf (stateOf r v) (rowBy kind w a b c) ≡ rowRan q v
 unfolding rowRunOf rowBy retiredRow isRetiredRow
-not-retired v r kind w a b c q z k h i = rw (z, le-ltb w (2 ^ 9) (large w (sym k ∙ z) h), i)
+not-retired v r kind w a b c q z k h i = rw (z, le-ltb (headIn w) (2 ^ 9) (large w (sym k ∙ z) h), i)
 
 -- a row by the kind in its lowest byte
 pub by-kind : (s : State) (kind w a b c : ℕ) (z : RowRun) → kind ≡ w % 2 ^ 8 → rowRunOf s (rowBy kind w a b c) ≡ z → rowRunOf s (rowOf w a b c) ≡ z
@@ -97,6 +110,12 @@ row-next : (s : State) (a : List ℕ) (i : ℕ) (row : Row) (q : RowRun) → row
 unfolding rowRunOf next
 row-next s a i (WellFormed e) q h t = rw (← h)
 row-next s a i (Malformed k) q h t = absurd (false≢true (ap (λ (x : RowRun). x .well-formed) h ∙ t))
+
+-- and of number 5
+pub row-good : (s : State) (row : Row) (q : RowRun) → rowRunOf s row ≡ q → goodOf (q .state .registers) ≡ goodOf (s .registers)
+unfolding rowRunOf
+row-good s (WellFormed e) q h = rw (← h) (good-kept s e)
+row-good s (Malformed k) q h = rw (← h)
 
 -- of a test that is negated
 pub negated : (b : Bool) {c : Bool} → not b ≡ c → b ≡ not c

@@ -1,6 +1,6 @@
 -- Rows of a trace: what four words mean. Word 0 has the kind in bits 7..0 and what the kind needs above; any bit that a kind does
 -- not name, and any word that it does not name, is 0. Malformed gives the first word that breaks a rule.
-use Prim.Native.Nat.{ℕ, _%_, _^_}
+use Prim.Native.Nat.{ℕ, _/_, _%_, _^_}
 use mathlib.Core.Bool.{Bool, _&&_}
 use lib.Dec.{eqb, ltb}
 use Rattle.bits.specs.Choice.{if_then_else_}
@@ -16,20 +16,27 @@ use Rattle.trace.specs.Codes.{modeOf, operationOf}
 use Rattle.trace.specs.declared.Row.{Row}
 use Rattle.trace.specs.declared.Row.the-variants.{WellFormed, Malformed}
 
--- word 0 has a mode code, 0 to 4, in bits 10..8, and no bit from a limit up
+-- of a retired word, a trap and a return, word 0 has the cycles in bits 63..32, and the rest below
+abbrev pub cyclesIn : ℕ → ℕ
+cyclesIn w = w / 2 ^ 32
+
+abbrev pub headIn : ℕ → ℕ
+headIn w = w % 2 ^ 32
+
+-- such a word 0 has a mode code, 0 to 4, in bits 10..8, and no bit from a limit up to bit 31
 unfoldable pub hasMode : ℕ → ℕ → Bool
-hasMode w limit = ltb w limit && ltb (fieldAt w 8 3) 5
+hasMode w limit = ltb (headIn w) limit && ltb (fieldAt w 8 3) 5
 
 -- kind 0, a retired word: taken in bit 8; instruction below 2^32, pc, target
 unfoldable pub isRetiredRow : ℕ → ℕ → Bool
-isRetiredRow w word = ltb w (2 ^ 9) && ltb word (2 ^ 32)
+isRetiredRow w word = ltb (headIn w) (2 ^ 9) && ltb word (2 ^ 32)
 
 abbrev pub retiredIn : ℕ → ℕ → ℕ → ℕ → RetiredWord
-retiredIn w word pc target = record { word = word; pc = pc; target = target; taken = eqb (bitAt w 8) 1 }
+retiredIn w word pc target = record { word = word; pc = pc; target = target; taken = eqb (bitAt w 8) 1; cycles = cyclesIn w }
 
 unfoldable pub retiredRow : ℕ → ℕ → ℕ → ℕ → Row
 retiredRow w word pc target =
-    if isRetiredRow w word then WellFormed (Retired (retiredIn w word pc target)) else Malformed (if ltb w (2 ^ 9) then 1 else 0)
+    if isRetiredRow w word then WellFormed (Retired (retiredIn w word pc target)) else Malformed (if ltb (headIn w) (2 ^ 9) then 1 else 0)
 
 -- kind 1, a trap: target mode in bits 10..8, interrupt in bit 11; cause, epc, handler
 unfoldable pub isTrapRow : ℕ → Bool
@@ -37,7 +44,14 @@ isTrapRow w = hasMode w (2 ^ 12)
 
 abbrev pub trapIn : ℕ → ℕ → ℕ → ℕ → TrapTo
 trapIn w cause epc handler =
-    record { mode = modeOf (fieldAt w 8 3); interrupt = eqb (bitAt w 11) 1; cause = cause; epc = epc; handler = handler }
+    record {
+      mode = modeOf (fieldAt w 8 3);
+      interrupt = eqb (bitAt w 11) 1;
+      cause = cause;
+      epc = epc;
+      handler = handler;
+      cycles = cyclesIn w;
+    }
 
 unfoldable pub trapRow : ℕ → ℕ → ℕ → ℕ → Row
 trapRow w cause epc handler = if isTrapRow w then WellFormed (Trap (trapIn w cause epc handler)) else Malformed 0
@@ -47,7 +61,7 @@ unfoldable pub isReturnRow : ℕ → ℕ → Bool
 isReturnRow w blank = hasMode w (2 ^ 11) && eqb blank 0
 
 abbrev pub returnIn : ℕ → ℕ → ℕ → ReturnTo
-returnIn w pc target = record { mode = modeOf (fieldAt w 8 3); pc = pc; target = target }
+returnIn w pc target = record { mode = modeOf (fieldAt w 8 3); pc = pc; target = target; cycles = cyclesIn w }
 
 unfoldable pub returnRow : ℕ → ℕ → ℕ → ℕ → Row
 returnRow w blank pc target =

@@ -11,7 +11,7 @@ use Rattle.recorder.specs.Steps.{stateOf, stepOf}
 use Rattle.machine.specs.declared.Registers.{Registers}
 use Rattle.recorder.specs.declared.Answered.{Answered}
 use Rattle.recorder.specs.declared.State.{State}
-use Rattle.trace.specs.Rows.{rowOf}
+use Rattle.trace.specs.Rows.{headIn, rowOf}
 use Rattle.trace.specs.declared.Row.{Row}
 use Rattle.trace.specs.declared.Row.the-variants.{WellFormed, Malformed}
 use Rattle.trace.specs.declared.Replayed.{Replayed}
@@ -22,9 +22,9 @@ use Rattle.trace.specs.declared.RowRan.{RowRan}
 unfoldable pub rowAt : List ℕ → ℕ → Row
 rowAt ws i = rowOf (getD ws (4 * i) 0) (getD ws (4 * i + 1) 0) (getD ws (4 * i + 2) 0) (getD ws (4 * i + 3) 0)
 
--- word 0 of a retired word: no bit but taken
+-- word 0 of a retired word: below the cycles no bit but taken
 unfoldable pub isRetiredHead : ℕ → Bool
-isRetiredHead w = eqb w 0 || eqb w 0x100
+isRetiredHead w = eqb (headIn w) 0 || eqb (headIn w) 0x100
 
 abbrev pub isWellFormed : Row → Bool
 isWellFormed (WellFormed e) = true

@@ -4,7 +4,7 @@ ghost use mathlib.Core.Bool.{true};
 ghost use lib.Dec.{eqb, ltb};
 ghost use Rattle.bits.specs.Words.{fieldAt};
 ghost use Rattle.trace.specs.Codes.{modeOf, operationOf};
-ghost use Rattle.trace.specs.Rows.{hasMode, isRetiredRow, retiredIn, retiredRow, isTrapRow, trapIn, trapRow, isReturnRow, returnIn, returnRow, isAccessRow, accessIn, accessRow, areZeros, firstSet, isPlainRow, plainRow, sctrclrRow, enablesIn, hostRow, rowBy, rowOf};
+ghost use Rattle.trace.specs.Rows.{cyclesIn, headIn, hasMode, isRetiredRow, retiredIn, retiredRow, isTrapRow, trapIn, trapRow, isReturnRow, returnIn, returnRow, isAccessRow, accessIn, accessRow, areZeros, firstSet, isPlainRow, plainRow, sctrclrRow, enablesIn, hostRow, rowBy, rowOf};
 use crate::Row;
 use crate::codes::mode_of;
 use crate::codes::operation_of;
@@ -17,7 +17,8 @@ use machine::RetiredWord;
 use machine::ReturnTo;
 use machine::TrapTo;
 
-// Word 0 of each kind is below a limit: no bit is set that the kind does not name.
+// Word 0 of each kind is below a limit, but for the cycles that three of them have in bits 63..32: no bit is
+// set that the kind does not name.
 const RETIRED_LIMIT: u64 = 0x200;
 
 const TRAP_LIMIT: u64 = 0x1000;
@@ -54,11 +55,24 @@ fn is_mode_code(w: u64) -> bool
     below(mode_field(w), 5)
 }
 
-// Whether word 0 has a mode, and no bit set from a limit up.
+// Whether the low half of word 0 is below a limit.
+fn head_below(w: u64, limit: u64) -> bool
+    ensures { λ b. ⌜ b ≡ ltb (headIn w) limit ⌝ }
+{
+    below(bits::low(w, 32), limit)
+}
+
+fn cycles_in(w: u64) -> u32
+    ensures { λ n. ⌜ n ≡ cyclesIn w ⌝ }
+{
+    (w >> 32) as u32
+}
+
+// Whether word 0 has a mode, and below the cycles no bit set from a limit up.
 fn has_mode(w: u64, limit: u64) -> bool
     ensures { λ b. ⌜ b ≡ hasMode w limit ⌝ }
 {
-    if below(w, limit) {
+    if head_below(w, limit) {
         is_mode_code(w)
     } else {
         false
@@ -81,7 +95,7 @@ fn operation_in(w: u64) -> Operation
 pub(crate) fn is_retired_row(w: u64, word: u64) -> bool
     ensures { λ b. ⌜ b ≡ isRetiredRow w word ⌝ }
 {
-    if below(w, RETIRED_LIMIT) {
+    if head_below(w, RETIRED_LIMIT) {
         below(word, 0x1_0000_0000)
     } else {
         false
@@ -97,6 +111,7 @@ pub(crate) fn retired_in(w: u64, word: u64, pc: u64, target: u64) -> RetiredWord
         pc,
         target,
         taken: bits::bit(w, 8),
+        cycles: cycles_in(w),
     }
 }
 
@@ -105,7 +120,7 @@ fn retired_row(w: u64, word: u64, pc: u64, target: u64) -> Row
 {
     if is_retired_row(w, word) {
         Row::WellFormed(Event::Retired(retired_in(w, word, pc, target)))
-    } else if below(w, RETIRED_LIMIT) {
+    } else if head_below(w, RETIRED_LIMIT) {
         Row::Malformed(1)
     } else {
         Row::Malformed(0)
@@ -128,6 +143,7 @@ pub(crate) fn trap_in(w: u64, cause: u64, epc: u64, handler: u64) -> TrapTo
         cause,
         epc,
         handler,
+        cycles: cycles_in(w),
     }
 }
 
@@ -159,6 +175,7 @@ pub(crate) fn return_in(w: u64, pc: u64, target: u64) -> ReturnTo
         mode: mode_in(w),
         pc,
         target,
+        cycles: cycles_in(w),
     }
 }
 

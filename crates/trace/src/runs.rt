@@ -1,8 +1,10 @@
 // A whole trace: its rows are run one after the other in place, and each answer takes two words.
 ghost use mathlib.Core.Path.{_≡_};
-ghost use mathlib.Core.Bool.{false};
+ghost use mathlib.Core.Bool.{false, _||_};
 ghost use Prim.Native.Nat.{_+_, _*_, _%_, _^_, _≤_, _<_};
+ghost use lib.Dec.{eqb};
 ghost use lib.ListN.{length};
+ghost use Rattle.machine.specs.Good.{goodOf};
 ghost use Rattle.recorder.specs.Entries.{entriesOf};
 ghost use Rattle.recorder.specs.Steps.{stateOf, Whole};
 ghost use Rattle.trace.specs.Rows.{retiredRow, trapRow, returnRow, accessRow, sctrclrRow, hostRow, rowBy, rowOf};
@@ -24,9 +26,11 @@ use crate::rows::return_in;
 use crate::rows::trap_in;
 use machine::Buffer;
 use machine::ControlWords;
+use machine::Cycles;
 use machine::Enables;
 use machine::Registers;
 use machine::Selects;
+use machine::good::is_good;
 use recorder::Answered;
 use recorder::ENTRIES;
 use recorder::State;
@@ -61,15 +65,18 @@ fn run_retired(
     ctrtarget: &mut [u64; ENTRIES],
     ctrdata: &mut [u64; ENTRIES],
     r: Registers,
+    good: bool,
     w: u64,
     a: u64,
     b: u64,
     c: u64,
 ) -> RowRan
+    requires { ⌜ good ≡ goodOf r ⌝ }
     ensures { λ q. ⌜ rowRunOf (stateOf r (entriesOf (now (ctrsource .entry)) (now (ctrtarget .entry)) (now (ctrdata .entry)))) (retiredRow w a b c) ≡ rowRan q (entriesOf (now (ctrsource .exit)) (now (ctrtarget .exit)) (now (ctrdata .exit))) ⌝ }
 {
     if is_retired_row(w, a) {
-        let x = kinds::retire(ctrsource, ctrtarget, ctrdata, r, retired_in(w, a, b, c));
+        let e = retired_in(w, a, b, c);
+        let x = kinds::retire_with(ctrsource, ctrtarget, ctrdata, r, e, good);
         ran(x)
     } else {
         malformed(r)
@@ -203,27 +210,36 @@ fn run_by(
     }
 }
 
+fn is_head(head: u64) -> bool
+    ensures { λ b. ⌜ b ≡ (eqb head 0 || eqb head 0x100) ⌝ }
+{
+    head == 0 || head == 0x100
+}
+
 fn is_retired_head(w: u64) -> bool
     ensures { λ b. ⌜ b ≡ isRetiredHead w ⌝ }
 {
-    w == 0 || w == 0x100
+    is_head(bits::low(w, 32))
 }
 
-// Most rows are retired words: they are looked for first.
+// Most rows are retired words: they are looked for first, and what number 5 is about is not looked at again for
+// each of them.
 fn run_words(
     ctrsource: &mut [u64; ENTRIES],
     ctrtarget: &mut [u64; ENTRIES],
     ctrdata: &mut [u64; ENTRIES],
     r: Registers,
+    good: bool,
     w: u64,
     a: u64,
     b: u64,
     c: u64,
 ) -> RowRan
+    requires { ⌜ good ≡ goodOf r ⌝ }
     ensures { λ q. ⌜ rowRunOf (stateOf r (entriesOf (now (ctrsource .entry)) (now (ctrtarget .entry)) (now (ctrdata .entry)))) (rowOf w a b c) ≡ rowRan q (entriesOf (now (ctrsource .exit)) (now (ctrtarget .exit)) (now (ctrdata .exit))) ⌝ }
 {
     if is_retired_head(w) {
-        run_retired(ctrsource, ctrtarget, ctrdata, r, w, a, b, c)
+        run_retired(ctrsource, ctrtarget, ctrdata, r, good, w, a, b, c)
     } else {
         run_by(
             ctrsource,
@@ -245,10 +261,12 @@ fn run_row(
     ctrtarget: &mut [u64; ENTRIES],
     ctrdata: &mut [u64; ENTRIES],
     r: Registers,
+    good: bool,
     rows: &[u64],
     i: usize,
 ) -> RowRan
-    requires { ⌜ 4 * i + 3 < length (now rows) ⌝ }
+    requires place { ⌜ 4 * i + 3 < length (now rows) ⌝ }
+    requires found { ⌜ good ≡ goodOf r ⌝ }
     ensures { λ q. ⌜ rowRunOf (stateOf r (entriesOf (now (ctrsource .entry)) (now (ctrtarget .entry)) (now (ctrdata .entry)))) (rowAt (now (rows .entry)) i) ≡ rowRan q (entriesOf (now (ctrsource .exit)) (now (ctrtarget .exit)) (now (ctrdata .exit))) ⌝ }
 {
     run_words(
@@ -256,6 +274,7 @@ fn run_row(
         ctrtarget,
         ctrdata,
         r,
+        good,
         rows[4 * i],
         rows[4 * i + 1],
         rows[4 * i + 2],
@@ -294,12 +313,17 @@ fn apart(r: Registers) -> Registers
         mstateen0: r.enables.mstateen0,
         hstateen0: r.enables.hstateen0,
     };
+    let cycles = Cycles {
+        counter: r.cycles.counter,
+        ccv: r.cycles.ccv,
+    };
     Registers {
         mode,
         controls,
         buffer,
         selects,
         enables,
+        cycles,
     }
 }
 
@@ -309,18 +333,20 @@ fn run_rows(
     ctrtarget: &mut [u64; ENTRIES],
     ctrdata: &mut [u64; ENTRIES],
     r: Registers,
+    good: bool,
     rows: &[u64],
     answers: &mut [u64],
     n: usize,
 ) -> Ran
     requires rows { ⌜ 4 * n ≤ length (now rows) ⌝ }
     requires room { ⌜ 2 * n ≤ length (now answers) ⌝ }
+    requires found { ⌜ good ≡ goodOf r ⌝ }
     ensures { λ q. ⌜ ranOf (stateOf r (entriesOf (now (ctrsource .entry)) (now (ctrtarget .entry)) (now (ctrdata .entry)))) (now (rows .entry)) (now (answers .entry)) n ≡ ranTo q (entriesOf (now (ctrsource .exit)) (now (ctrtarget .exit)) (now (ctrdata .exit))) (now (answers .exit)) ⌝ }
 {
     let mut registers = apart(r);
     let mut i: usize = 0;
     while i < n {
-        let row = run_row(ctrsource, ctrtarget, ctrdata, registers, rows, i);
+        let row = run_row(ctrsource, ctrtarget, ctrdata, registers, good, rows, i);
         let next = row.registers;
         if !row.well_formed {
             return Ran {
@@ -362,7 +388,8 @@ pub fn replay_in_place(
                 registers: r,
             }
         } else {
-            run_rows(ctrsource, ctrtarget, ctrdata, r, rows, answers, n)
+            let good = is_good(r);
+            run_rows(ctrsource, ctrtarget, ctrdata, r, good, rows, answers, n)
         }
     } else {
         Ran {

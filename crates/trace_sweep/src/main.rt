@@ -45,18 +45,24 @@ const OTHER: [u64; 3] = [0, 1, 0xFFFF_FFFF_FFFF_FFFF];
 
 fn digest_retired(h: u64, w: RetiredWord) -> u64 {
     let d = digest(digest(h, w.word as u64), w.pc);
-    digest(digest(d, w.target), flag(w.taken))
+    digest(digest(digest(d, w.target), flag(w.taken)), w.cycles as u64)
 }
 
 fn digest_trap(h: u64, t: TrapTo) -> u64 {
     let m = t.mode;
     let d = digest(digest(h, mode_code(m)), flag(t.interrupt));
-    digest(digest(digest(d, t.cause), t.epc), t.handler)
+    digest(
+        digest(digest(digest(d, t.cause), t.epc), t.handler),
+        t.cycles as u64,
+    )
 }
 
 fn digest_return(h: u64, t: ReturnTo) -> u64 {
     let m = t.mode;
-    digest(digest(digest(h, mode_code(m)), t.pc), t.target)
+    digest(
+        digest(digest(digest(h, mode_code(m)), t.pc), t.target),
+        t.cycles as u64,
+    )
 }
 
 fn digest_access(h: u64, a: CsrAccess) -> u64 {
@@ -157,7 +163,17 @@ fn with_bit(t: Tally, bit: u64) -> Tally {
     next
 }
 
-// Every kind under all settings of the bits that are named and one more, and every bit above.
+// All settings of the lower bits under an upper half.
+fn with_lower(t: Tally, upper: u64) -> Tally {
+    let mut next = t;
+    for head in 0u64..0x2000 {
+        next = with_head(next, upper | head);
+    }
+    next
+}
+
+// Every kind under all settings of the bits that are named in the lower half and one more, with the upper
+// half all zeros and all ones; and every single bit above.
 fn all_rows() -> Tally {
     let mut t = Tally {
         rows: 0,
@@ -165,9 +181,8 @@ fn all_rows() -> Tally {
         broken: [0; 4],
         digest: 0,
     };
-    for head in 0u64..0x2000 {
-        t = with_head(t, head);
-    }
+    t = with_lower(t, 0);
+    t = with_lower(t, 0xFFFF_FFFF_0000_0000);
     for place in 13u64..64 {
         t = with_bit(t, 1u64 << place);
     }

@@ -1,2 +1,3 @@
 -- What holds of transfers.
+pub mod CountLaws
 pub mod Laws

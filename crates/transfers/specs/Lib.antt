@@ -1,3 +1,4 @@
+pub mod Counts
 pub mod Records
 pub mod Transfers
 pub mod Laws

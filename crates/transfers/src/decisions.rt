@@ -1,9 +1,14 @@
 // What an outcome does, and what a trap and a trap return decide.
 ghost use mathlib.Core.Path.{_≡_};
 ghost use Rattle.machine.specs.Answers.{valueOf, accepted, acceptedPut};
-ghost use Rattle.machine.specs.Regs.{withFrozen};
+ghost use Rattle.machine.specs.Regs.{withFrozen, withCycles};
+ghost use Rattle.qualifying.specs.Outcomes.{trapType};
+ghost use Rattle.transfers.specs.Counts.{restarted, stamped};
 ghost use Rattle.transfers.specs.Records.{popped, advanced, retreated};
 ghost use Rattle.transfers.specs.Transfers.{outcomeFocus, doneOf, inMode, crossing, takenTrap, trapOf, takenReturn, returnOf};
+use crate::counts::restart;
+use crate::counts::stamp;
+use crate::counts::tally;
 use crate::records::advance;
 use crate::records::entry_for;
 use crate::records::pop;
@@ -23,18 +28,20 @@ use machine::answers::refuse;
 use machine::answers::value;
 use machine::depths::physical;
 use machine::depths::wrapped;
+use machine::regs::with_cycles;
 use machine::regs::with_frozen;
 use machine::regs::with_mode;
 use qualifying::changes::possible_return;
 use qualifying::changes::possible_trap;
 use qualifying::outcomes::RETURN_TYPE;
+use qualifying::outcomes::rasemu;
 use qualifying::outcomes::return_outcome;
 use qualifying::outcomes::trap_outcome;
 use qualifying::outcomes::trap_type;
 
 // The physical entry that an outcome is about.
 pub fn focus(r: Registers, o: Outcome) -> u64
-    ensures { λ p. ⌜ p ≡ outcomeFocus r o ⌝ }
+    ensures { λ p. ⌜ p ≡ outcomeFocus (r .buffer) o ⌝ }
 {
     match o {
         Outcome::Nothing => wrapped(r.buffer.wrptr, r.buffer.code),
@@ -45,10 +52,15 @@ pub fn focus(r: Registers, o: Outcome) -> u64
     }
 }
 
-fn record(r: Registers, e: Entry) -> Decision
-    ensures { λ d. ⌜ d ≡ acceptedPut (advanced r) (valueOf Outcome.Record) e ⌝ }
+fn record(r: Registers, e: Entry, rasemu: bool) -> Decision
+    ensures { λ d. ⌜ d ≡ acceptedPut (withCycles (advanced r) (restarted rasemu)) (valueOf Outcome.Record) (stamped e (r .cycles)) ⌝ }
 {
-    accept_put(advance(r), value(Outcome::Record), e)
+    let c = r.cycles;
+    accept_put(
+        with_cycles(advance(r), restart(rasemu)),
+        value(Outcome::Record),
+        stamp(e, c),
+    )
 }
 
 fn pop_newest(r: Registers, old: Entry) -> Decision
@@ -75,13 +87,14 @@ fn nothing(r: Registers) -> Decision
     accept(r, value(Outcome::Nothing))
 }
 
-// An outcome done, with the entry in focus and the record e that it would put.
-pub fn done(r: Registers, old: Entry, e: Entry, o: Outcome) -> Decision
-    ensures { λ d. ⌜ d ≡ doneOf r old e o ⌝ }
+// An outcome done, from registers with the counter as the event finds it, with the entry in focus and the
+// record e that it would put.
+pub fn done(r: Registers, old: Entry, e: Entry, rasemu: bool, o: Outcome) -> Decision
+    ensures { λ d. ⌜ d ≡ doneOf r old e rasemu o ⌝ }
 {
     match o {
         Outcome::Nothing => nothing(r),
-        Outcome::Record => record(r, e),
+        Outcome::Record => record(r, e, rasemu),
         Outcome::Pop => pop_newest(r, old),
         Outcome::Swap => swap(r, e),
         Outcome::Freeze => freeze(r),
@@ -114,12 +127,22 @@ fn crossed(r: Registers, target: Mode, source_pc: u64, target_pc: u64, number: u
     )
 }
 
+fn trap_record(r: Registers, t: TrapTo) -> Entry
+    ensures { λ e. ⌜ e ≡ crossing r (t .mode) (t .epc) (t .handler) (trapType (t .interrupt)) ⌝ }
+{
+    let m = t.mode;
+    crossed(r, m, t.epc, t.handler, trap_type(t.interrupt))
+}
+
 fn take_trap(r: Registers, old: Entry, t: TrapTo) -> Decision
     ensures { λ d. ⌜ d ≡ takenTrap r old t ⌝ }
 {
     let m = t.mode;
-    let e = crossed(r, m, t.epc, t.handler, trap_type(t.interrupt));
-    in_mode(done(r, old, e, trap_outcome(r, t)), m)
+    let e = trap_record(r, t);
+    let source = r.mode;
+    let ra = rasemu(r, source, m);
+    let q = tally(r, ra, t.cycles);
+    in_mode(done(q, old, e, ra, trap_outcome(r, t)), m)
 }
 
 // A trap, possible or not. Number 5 is the caller's to look for.
@@ -140,7 +163,10 @@ fn take_return(r: Registers, old: Entry, t: ReturnTo) -> Decision
 {
     let m = t.mode;
     let e = crossed(r, m, t.pc, t.target, RETURN_TYPE);
-    in_mode(done(r, old, e, return_outcome(r, m)), m)
+    let source = r.mode;
+    let ra = rasemu(r, source, m);
+    let q = tally(r, ra, t.cycles);
+    in_mode(done(q, old, e, ra, return_outcome(r, m)), m)
 }
 
 // A trap return, possible or not. Number 5 is the caller's to look for.

@@ -63,7 +63,7 @@ impl Random {
             _ => s % 6,
         };
         let depth = 16 << depth_code.min(4);
-        let wrptr = self.draw();
+        let (wrptr, cycles) = (self.draw(), self.draw());
         Registers {
             mode,
             mctrctl: if s % 8 == 7 {
@@ -84,6 +84,11 @@ impl Random {
                 _ => wrptr % depth,
             },
             frozen: s % 2 == 1,
+            cycles: match s % 16 {
+                10 => 1 << 27,
+                _ => cycles % (1 << 27),
+            },
+            ccv: cycles >> 63 == 1,
             ..Registers::RESET
         }
     }
@@ -160,9 +165,9 @@ fn add_events(tally: &mut Tally, random: &mut Random, start: &Registers) {
             tally.add(answer, &registers, &entry);
         }
     }
-    let mut cleared = last;
-    let answer = start.sctrclr(&mut cleared);
-    tally.add(answer, start, &cleared);
+    let (mut registers, mut cleared) = (*start, last);
+    let answer = registers.sctrclr(&mut cleared);
+    tally.add(answer, &registers, &cleared);
 
     let (mut registers, x) = (*start, random.0);
     let answer = registers.set_state_enables(x & 1 == 1, x >> 1 & 1 == 1);

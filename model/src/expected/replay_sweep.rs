@@ -253,13 +253,14 @@ fn with_malformed(
     }
 }
 
-/// Makes a good state bad, in one of the four ways there are.
+/// Makes a good state bad, in one of the five ways there are.
 fn make_bad(registers: &mut Registers, way: usize) {
-    match way % 4 {
+    match way % 5 {
         0 => registers.depth_code = 5,
         1 => registers.wrptr = registers.depth(),
         2 => registers.mctrctl |= 1 << 63,
-        _ => registers.vsctrctl |= 1 << 2,
+        3 => registers.vsctrctl |= 1 << 2,
+        _ => registers.cycles = 1 << 27,
     }
 }
 

@@ -44,5 +44,6 @@ fn call(i: u64) -> Event {
         pc: 4 * i,
         target: 8 * i,
         taken: false,
+        cycles: 0,
     })
 }

@@ -18,11 +18,17 @@ const FIRST: [u64; 8] = [
 ];
 const OTHER: [u64; 3] = [0, 1, u64::MAX];
 
-/// The first words: every kind under all settings of the bits that are named and one more, and
-/// every single bit above under the kinds there are and the next.
+/// Bits 63..32.
+const UPPER_HALF: u64 = 0xFFFF_FFFF << 32;
+
+/// The first words: every kind under all settings of the bits that are named in the lower half and
+/// one more, with the upper half all zeros and all ones; and every single bit above under the kinds
+/// there are and the next.
 fn heads() -> impl Iterator<Item = u64> {
     let high_bits = (13..64).flat_map(|place| (0..=6).map(move |kind| kind | 1 << place));
-    (0..0x2000).chain(high_bits)
+    let lower = 0..0x2000;
+    let with_ones = lower.clone().map(|head| UPPER_HALF | head);
+    lower.chain(with_ones).chain(high_bits)
 }
 
 /// How many rows are an event of each kind, in how many each word is the first to break a rule, and
@@ -66,7 +72,14 @@ impl Tally {
 /// The kind of an event and its data, in the order in which it has them.
 fn words(event: Event) -> Vec<u64> {
     match event {
-        Event::Retired(e) => vec![0, e.word.into(), e.pc, e.target, e.taken.into()],
+        Event::Retired(e) => vec![
+            0,
+            e.word.into(),
+            e.pc,
+            e.target,
+            e.taken.into(),
+            e.cycles.into(),
+        ],
         Event::Trap(e) => vec![
             1,
             e.target_mode as u64,
@@ -74,8 +87,9 @@ fn words(event: Event) -> Vec<u64> {
             e.cause,
             e.epc,
             e.handler,
+            e.cycles.into(),
         ],
-        Event::TrapReturn(e) => vec![2, e.target_mode as u64, e.pc, e.target],
+        Event::TrapReturn(e) => vec![2, e.target_mode as u64, e.pc, e.target, e.cycles.into()],
         Event::Access(e) => vec![3, e.operation as u64, e.csr, e.operand],
         Event::Sctrclr => vec![4],
         Event::Host {
@@ -106,12 +120,20 @@ mod tests {
 
     /// Of the 72 rows under a head: all of a trap's, a return's nine with word 1 0, an access's
     /// nine with word 3 0 (three numbers, three operands), a retired word's 45 (five words), and
-    /// one of SCTRCLR's and the host's. Two heads are retired words, ten traps, five returns, four
-    /// accesses, one SCTRCLR and four the host's.
+    /// one of SCTRCLR's and the host's. Two lower halves are retired words, ten traps, five returns,
+    /// four accesses, one SCTRCLR and four the host's; the first three kinds have them with no
+    /// cycles, with the most, and one of them with each single bit of the 32.
     #[test]
     fn each_kind_and_each_broken_word_occurs() {
         let text = trace_sweep();
-        let kinds = [2 * 45, 10 * 72, 5 * 9, 4 * 9, 1, 4];
+        let kinds = [
+            (2 * 2 + 32) * 45,
+            (2 * 10 + 32) * 72,
+            (2 * 5 + 32) * 9,
+            4 * 9,
+            1,
+            4,
+        ];
         for (kind, count) in kinds.into_iter().enumerate() {
             assert!(text.contains(&format!("  kind {kind} {count}\n")), "{text}");
         }

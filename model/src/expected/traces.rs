@@ -182,6 +182,7 @@ fn retired(taken: bool, pc: u64) -> Row {
         pc,
         target: pc + 8,
         taken,
+        cycles: 5,
     }))
 }
 
@@ -192,6 +193,7 @@ fn trap(target_mode: Mode, is_interrupt: bool, epc: u64) -> Row {
         cause: 2,
         epc,
         handler: epc + 0x10,
+        cycles: 40,
     }))
 }
 
@@ -200,6 +202,7 @@ fn trap_return(target_mode: Mode, pc: u64) -> Row {
         target_mode,
         pc,
         target: pc + 0x20,
+        cycles: 4100,
     }))
 }
 
@@ -227,6 +230,7 @@ fn printed() -> Printed {
 #[cfg(test)]
 mod tests {
     use super::*;
+    use crate::replay::decode;
     use std::collections::BTreeSet;
 
     fn report_of(setup_writes: Setup, trace: &[u8]) -> String {
@@ -282,6 +286,46 @@ mod tests {
                 "0x8040003c -> 0x8040015c direct call"
             ]
         );
+    }
+
+    /// Where an event is, where execution goes on after it, and its cycles.
+    fn passage(event: Event) -> (u64, u64, u32) {
+        match event {
+            Event::Retired(retired) => (retired.pc, retired.target, retired.cycles),
+            Event::Trap(trap) => (trap.epc, trap.handler, trap.cycles),
+            Event::TrapReturn(trap_return) => {
+                (trap_return.pc, trap_return.target, trap_return.cycles)
+            }
+            _ => panic!("the samples have no {event:?}"),
+        }
+    }
+
+    /// The rule of examples/traces/README.md: 3 cycles for an event, and one more for each whole
+    /// four bytes of code from where execution went on after the event before.
+    #[test]
+    fn cycles_of_the_samples_follow_from_addresses() {
+        for sample in [USER, GUEST] {
+            let mut start = None;
+            for (index, row) in rows(sample).enumerate() {
+                let (pc, next, cycles) = passage(decode(row).expect("a well-formed row"));
+                let bytes = pc - start.unwrap_or(pc);
+                assert_eq!(u64::from(cycles), 3 + bytes / 4, "row {index}");
+                start = Some(next);
+            }
+        }
+    }
+
+    /// All 16 entries have one, and it is never 0.
+    #[test]
+    fn counts_are_shown_with_the_history() {
+        let report = report_of(HISTORY, USER);
+        let counts: Vec<u64> = entries(&report)
+            .iter()
+            .filter_map(|entry| entry.split_once(" cycles "))
+            .filter_map(|(_, count)| count.parse().ok())
+            .collect();
+        assert_eq!(counts.len(), 16, "{report}");
+        assert!(counts.iter().all(|count| *count > 0), "{report}");
     }
 
     /// Settings of word 0 that no answer tells from each other: traps to U and to VU, which answer 4

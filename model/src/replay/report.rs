@@ -1,6 +1,7 @@
 //! What is printed of a trace after its answers.
 
 use crate::access::{Answer, GRANTED};
+use crate::cycles::valid_count;
 use crate::recorder::{Event, Machine};
 use crate::registers::{Entry, Register, Registers};
 
@@ -115,6 +116,8 @@ fn registers(registers: &Registers) -> String {
         ("vsiselect", registers.vsiselect),
         ("mstateen0.CTR", registers.mstateen0_ctr.into()),
         ("hstateen0.CTR", registers.hstateen0_ctr.into()),
+        ("cycles", registers.cycles),
+        ("ccv", registers.ccv.into()),
     ];
     let lines = readings.map(|(name, reading)| format!("{name} {reading:#x}\n"));
     format!("mode {:?}\n", registers.mode) + &lines.concat()
@@ -135,10 +138,12 @@ fn valid_entries(machine: &Machine) -> String {
         .collect()
 }
 
+/// The count of cycles is shown only if it is valid.
 fn transfer(index: u64, entry: Entry) -> String {
     let (source, target) = (entry.ctrsource & !V, entry.ctrtarget & !1);
     let name = TYPES[(entry.ctrdata & TYPE) as usize];
-    format!("{index} {source:#x} -> {target:#x} {name}\n")
+    let count = valid_count(entry.ctrdata).map_or(String::new(), |n| format!(" cycles {n}"));
+    format!("{index} {source:#x} -> {target:#x} {name}{count}\n")
 }
 
 fn physical_entries(entries: &[Entry]) -> String {
@@ -164,6 +169,7 @@ mod tests {
         pc: 0x1000,
         target: 0x2000,
         taken: false,
+        cycles: 0x1234,
     });
 
     fn write(csr: u64, operand: u64) -> Event {
@@ -181,6 +187,7 @@ mod tests {
             cause: 9,
             epc: 0,
             handler: 0,
+            cycles: 1,
         })
     }
 
@@ -202,6 +209,8 @@ siselect 0x0
 vsiselect 0x0
 mstateen0.CTR 0x0
 hstateen0.CTR 0x0
+cycles 0x0
+ccv 0x0
 ";
 
     #[test]
@@ -252,6 +261,8 @@ hstateen0.CTR 0x0
             vsiselect: u64::MAX,
             mstateen0_ctr: true,
             hstateen0_ctr: true,
+            cycles: 0x7FF_FFFF,
+            ccv: true,
         });
         let expected = "\
 mode VS
@@ -263,6 +274,8 @@ siselect 0x2ab
 vsiselect 0xffffffffffffffff
 mstateen0.CTR 0x1
 hstateen0.CTR 0x1
+cycles 0x7ffffff
+ccv 0x1
 ";
         assert_eq!(text, expected);
     }
@@ -274,7 +287,7 @@ hstateen0.CTR 0x1
         machine.registers.wrptr = 2;
         for (index, ctrsource, ctrtarget, ctrdata) in [
             (1, 0x1001, 0x2003, 0xFFF8),
-            (2, 0x1, 0x0, 0x6),
+            (2, 0x1, 0x0, 0xFFFF_7FF6),
             (3, 0x3000, 0x4000, 0x9),
             (16, 0x5001, 0x6000, 0x1),
         ] {
@@ -291,7 +304,7 @@ hstateen0.CTR 0x1
     fn valid_entries_are_shown_in_logical_order() {
         assert_eq!(
             valid_entries(&machine_with_entries()),
-            "0 0x1000 -> 0x2002 indirect call\n15 0x0 -> 0x0 reserved\n"
+            "0 0x1000 -> 0x2002 indirect call cycles 0\n15 0x0 -> 0x0 reserved\n"
         );
     }
 
@@ -302,9 +315,50 @@ hstateen0.CTR 0x1
         machine.registers.depth_code = 4;
         assert_eq!(
             valid_entries(&machine),
-            "0 0x1000 -> 0x2002 indirect call\n241 0x5000 -> 0x6000 exception\n\
+            "0 0x1000 -> 0x2002 indirect call cycles 0\n241 0x5000 -> 0x6000 exception\n\
              255 0x0 -> 0x0 reserved\n"
         );
+    }
+
+    /// Two calls: the first has no valid count, the second its own cycles. Of the branch after
+    /// them, which is not recorded, the cycles are in the counter.
+    #[test]
+    fn counts_of_cycles_are_shown_if_they_are_valid() {
+        let branch = Event::Retired(Retired {
+            word: 0x0000_0063,
+            pc: 0x2000,
+            target: 0x2004,
+            taken: false,
+            cycles: 0x56,
+        });
+        let report = report_of(&[write(0x34E, 4), CALL, CALL, branch]);
+        let expected = "\
+hstateen0.CTR 0x0
+cycles 0x56
+ccv 0x1
+0 0x1000 -> 0x2000 direct call cycles 4660
+1 0x1000 -> 0x2000 direct call
+";
+        assert!(report.ends_with(expected), "{report}");
+    }
+
+    #[test]
+    fn counts_of_cycles_are_decoded() {
+        for (ctrdata, count) in [
+            (0x0000_8009, 0),
+            (0x0FFF_8009, 4_095),
+            (0x1000_8009, 4_096),
+            (0x2001_8009, 8_194),
+            (0xFFFF_8009, 134_201_344),
+        ] {
+            let entry = Entry {
+                ctrsource: V,
+                ctrtarget: 0,
+                ctrdata,
+            };
+            let expected = format!("7 0x0 -> 0x0 direct call cycles {count}\n");
+            assert_eq!(transfer(7, entry), expected);
+        }
     }
 
     #[test]

@@ -20,6 +20,9 @@ const HOST: u64 = 5;
 /// Where the other fields of word 0 start.
 const FIELDS: u32 = 8;
 
+/// Where, among those fields, the cycles of a retired word, a trap or a return start.
+const CYCLES: u32 = 32 - FIELDS;
+
 // Among those fields, the codes of modes and operations are lowest. A trap has its interrupt bit
 // above the code, and of the host's bits that of hstateen0 is the second.
 const MODE_CODE: u64 = 7;
@@ -47,16 +50,19 @@ pub fn decode([head, w1, w2, w3]: Row) -> Result<Event, BrokenWord> {
 }
 
 fn retired(fields: u64, word: u64, pc: u64, target: u64) -> Result<Event, BrokenWord> {
+    let (fields, cycles) = split_cycles(fields);
     require(0, fields < 2)?;
     Ok(Event::Retired(Retired {
         word: u32::try_from(word).map_err(|_| 1_usize)?,
         pc,
         target,
         taken: bit(fields, 0),
+        cycles,
     }))
 }
 
 fn trap(fields: u64, cause: u64, epc: u64, handler: u64) -> Result<Event, BrokenWord> {
+    let (fields, cycles) = split_cycles(fields);
     require(0, fields < 2 << INTERRUPT)?;
     Ok(Event::Trap(Trap {
         target_mode: mode(fields & MODE_CODE)?,
@@ -64,16 +70,19 @@ fn trap(fields: u64, cause: u64, epc: u64, handler: u64) -> Result<Event, Broken
         cause,
         epc,
         handler,
+        cycles,
     }))
 }
 
 fn trap_return(fields: u64, zero: u64, pc: u64, target: u64) -> Result<Event, BrokenWord> {
+    let (fields, cycles) = split_cycles(fields);
     let target_mode = mode(fields)?;
     require(1, zero == 0)?;
     Ok(Event::TrapReturn(TrapReturn {
         target_mode,
         pc,
         target,
+        cycles,
     }))
 }
 
@@ -101,6 +110,11 @@ fn host(fields: u64, zeros: [u64; 3]) -> Result<Event, BrokenWord> {
         mstateen0_ctr: bit(fields, 0),
         hstateen0_ctr: bit(fields, HSTATEEN0),
     })
+}
+
+/// The fields below the cycles, and the cycles.
+fn split_cycles(fields: u64) -> (u64, u32) {
+    (fields % (1 << CYCLES), (fields >> CYCLES) as u32)
 }
 
 fn require(word: BrokenWord, holds: bool) -> Result<(), BrokenWord> {
@@ -137,26 +151,29 @@ fn by_code<T>(things: &[T], code: u64) -> Result<&T, BrokenWord> {
 pub fn encode(event: Event) -> Row {
     match event {
         Event::Retired(retired) => [
-            head(RETIRED, retired.taken.into()),
+            head(RETIRED, with_cycles(retired.taken.into(), retired.cycles)),
             retired.word.into(),
             retired.pc,
             retired.target,
         ],
-        Event::Trap(trap) => [
-            head(
-                TRAP,
-                trap.target_mode as u64 | u64::from(trap.is_interrupt) << INTERRUPT,
-            ),
-            trap.cause,
-            trap.epc,
-            trap.handler,
-        ],
-        Event::TrapReturn(trap_return) => [
-            head(TRAP_RETURN, trap_return.target_mode as u64),
-            0,
-            trap_return.pc,
-            trap_return.target,
-        ],
+        Event::Trap(trap) => {
+            let fields = trap.target_mode as u64 | u64::from(trap.is_interrupt) << INTERRUPT;
+            [
+                head(TRAP, with_cycles(fields, trap.cycles)),
+                trap.cause,
+                trap.epc,
+                trap.handler,
+            ]
+        }
+        Event::TrapReturn(trap_return) => {
+            let fields = trap_return.target_mode as u64;
+            [
+                head(TRAP_RETURN, with_cycles(fields, trap_return.cycles)),
+                0,
+                trap_return.pc,
+                trap_return.target,
+            ]
+        }
         Event::Access(access) => [
             head(ACCESS, access.operation as u64),
             access.csr,
@@ -176,6 +193,10 @@ pub fn encode(event: Event) -> Row {
 
 fn head(kind: u64, fields: u64) -> u64 {
     kind | fields << FIELDS
+}
+
+fn with_cycles(fields: u64, cycles: u32) -> u64 {
+    fields | u64::from(cycles) << CYCLES
 }
 
 /// The words that the bytes of a row are.

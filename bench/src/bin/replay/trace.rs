@@ -95,6 +95,7 @@ fn enter_m() -> Event {
         cause: 7,
         epc: 0x8000_0000,
         handler: 0x8000_0400,
+        cycles: 20,
     })
 }
 
@@ -103,6 +104,7 @@ fn leave_m(target_mode: Mode) -> Event {
         target_mode,
         pc: 0x8000_0480,
         target: 0x8000_0000,
+        cycles: 20,
     })
 }
 

@@ -15,8 +15,12 @@ const ILLEGAL_INSTRUCTION: u8 = 1;
 const VIRTUAL_INSTRUCTION: u8 = 2;
 const NO_SUCH_REGISTER: u8 = 3;
 
+/// The code of the operation that writes nothing.
+const READ: u64 = 0;
+
 const MCTRCTL_MASK: u64 = 0x0000_FF3E_0000_1B87;
 const SCTRCTL_MASK: u64 = 0x0000_FF3E_0000_1983;
+const CTRDATA_MASK: u64 = 0xFFFF_800F;
 
 /// The place of FROZEN in sctrstatus.
 const STATUS_FROZEN: u32 = 31;
@@ -30,20 +34,26 @@ const WINDOW_SIZE: usize = 256;
 pub struct Change {
     kept: u64,
     set: u64,
+    is_write: bool,
 }
 
 impl Change {
-    /// By the operation's code: read, write, set and clear. To write what is read changes nothing.
+    /// By the operation's code: read, write, set and clear. To write what is read changes nothing but
+    /// the count of cycles, so that reads are told apart.
     #[inline(always)]
     pub fn of(operation: u64, operand: u64) -> Option<Change> {
         let (kept, set) = match operation {
-            0 => (!0, 0),
+            READ => (!0, 0),
             1 => (0, operand),
             2 => (!0, operand),
             3 => (!operand, 0),
             _ => return None,
         };
-        Some(Change { kept, set })
+        Some(Change {
+            kept,
+            set,
+            is_write: operation != READ,
+        })
     }
 
     fn written(self, old: u64) -> u64 {
@@ -135,16 +145,19 @@ impl Recorder {
             Mctrctl => {
                 let old = self.mctrctl;
                 self.mctrctl = change.written(old) & MCTRCTL_MASK;
+                self.restart_count_at(change);
                 old
             }
             Sctrctl => {
                 let (old, hidden) = (self.mctrctl & SCTRCTL_MASK, self.mctrctl & !SCTRCTL_MASK);
                 self.mctrctl = hidden | change.written(old) & SCTRCTL_MASK;
+                self.restart_count_at(change);
                 old
             }
             Vsctrctl => {
                 let old = self.vsctrctl;
                 self.vsctrctl = change.written(old) & SCTRCTL_MASK;
+                self.restart_count_at(change);
                 old
             }
             Sctrdepth => {
@@ -176,6 +189,14 @@ impl Recorder {
         Ok(old)
     }
 
+    /// Every write of a control register restarts the count, whatever is written.
+    #[inline(always)]
+    fn restart_count_at(&mut self, change: Change) {
+        if change.is_write {
+            self.restart_count();
+        }
+    }
+
     #[inline(always)]
     fn access_entry(
         &mut self,
@@ -197,7 +218,7 @@ impl Recorder {
         let (word, mask) = match part {
             Part::Source => (&mut entry.source, !0),
             Part::Target => (&mut entry.target, !1),
-            Part::Data => (&mut entry.data, 0xF),
+            Part::Data => (&mut entry.data, CTRDATA_MASK),
             Part::Zero => return Ok(0),
         };
         let old = *word;
@@ -236,6 +257,7 @@ impl Recorder {
     pub fn clear(&mut self) -> Result<u64, u8> {
         self.ask(SCTRSTATUS, true)?;
         self.entries = [NO_ENTRY; ENTRIES];
+        self.restart_count();
         Ok(0)
     }
 }

@@ -4,6 +4,7 @@
 mod access;
 mod answers;
 mod classifier;
+mod cycles;
 mod recorder;
 mod report;
 mod run;

@@ -4,6 +4,7 @@
 use super::classifier::{
     transfer_type, DIRECT_CALL, INDIRECT_CALL, NONE, NOT_TAKEN_BRANCH, RETURN, SWAP,
 };
+use super::cycles::{coded, TOP};
 
 const EXCEPTION: u32 = 1;
 const INTERRUPT: u32 = 2;
@@ -26,6 +27,9 @@ const TRETINH: u64 = 1 << (INHIBITS + TRAP_RETURN);
 
 /// The types that RASEMU is about, a bit each.
 const CALL_STACK: u32 = 1 << INDIRECT_CALL | 1 << DIRECT_CALL | 1 << SWAP | 1 << RETURN;
+
+/// A bit above those of the types, so that some bit is set where all types are inhibited.
+const LIVE: u32 = 1 << 16;
 
 /// Bit 0 of ctrsource.
 pub const V: u64 = 1;
@@ -119,9 +123,14 @@ pub struct Recorder {
     pub wrptr: usize,
     /// The depth less one: the greatest index in use, and the mask of indices.
     pub last: usize,
+    /// The cycles counted since the last restart, up to `TOP`.
+    pub counter: u64,
+    /// The CCV that an ordinary record would now get.
+    pub ccv: bool,
     /// Whether RASEMU governs the words retired in the current mode.
     is_emulating: bool,
-    /// The types of these words that are not passed over, a bit each.
+    /// The types of these words that are not passed over, a bit each, and `LIVE`. No bit is set if
+    /// the mode is off or FROZEN is 1, where nothing becomes of words and no cycles count.
     wanted: u32,
     pub entries: [Entry; ENTRIES],
 }
@@ -139,6 +148,8 @@ impl Recorder {
             vsiselect: 0,
             wrptr: 0,
             last: 15,
+            counter: 0,
+            ccv: false,
             is_emulating: false,
             wanted: 0,
             entries: [NO_ENTRY; ENTRIES],
@@ -153,30 +164,48 @@ impl Recorder {
         self.wanted = if self.frozen || !self.is_on(self.mode) {
             0
         } else if self.is_emulating {
-            CALL_STACK
+            CALL_STACK | LIVE
         } else {
             // NTBREN, alone among the inhibits, lets its type in.
             let inhibited = (control >> INHIBITS) as u32 ^ 1 << NOT_TAKEN_BRANCH;
-            !inhibited & !(1 << NONE)
+            !inhibited & !(1 << NONE) | LIVE
         };
     }
 
     #[inline(always)]
-    pub fn retire(&mut self, word: u32, taken: u32, pc: u64, target: u64) -> Value {
+    pub fn retire(&mut self, word: u32, taken: u32, pc: u64, target: u64, cycles: u64) -> Value {
         if self.wanted == 0 {
             return Value::Nothing;
         }
         let number = transfer_type(word, taken);
-        if self.wanted >> number & 1 == 0 {
+        let is_wanted = self.wanted >> number & 1 == 1;
+        self.count(self.is_emulating, cycles);
+        if !is_wanted {
             Value::Nothing
         } else if self.is_emulating {
             self.emulate(number, pc, target)
         } else {
-            self.enter(number, pc, target)
+            self.enter_with_count(number, pc, target)
         }
     }
 
-    /// A call, a return or a swap under RASEMU.
+    /// The cycles of an event from a mode that is on, with FROZEN 0. Under RASEMU none are kept.
+    #[inline(always)]
+    fn count(&mut self, is_emulating: bool, cycles: u64) {
+        if is_emulating {
+            self.restart_count();
+        } else {
+            self.counter = (self.counter + cycles).min(TOP);
+        }
+    }
+
+    #[inline(always)]
+    pub fn restart_count(&mut self) {
+        self.counter = 0;
+        self.ccv = false;
+    }
+
+    /// A call, a return or a swap under RASEMU, where records have no count.
     fn emulate(&mut self, number: u32, pc: u64, target: u64) -> Value {
         let newest = self.physical(0);
         match number {
@@ -186,16 +215,25 @@ impl Recorder {
                 Value::Popped
             }
             SWAP => {
-                self.entries[newest] = record(number, pc, target);
+                self.entries[newest] = record(number.into(), pc, target);
                 Value::Swapped
             }
-            _ => self.enter(number, pc, target),
+            _ => self.enter(number.into(), pc, target),
         }
     }
 
+    /// An ordinary record has the count since the last restart, and the next one that since this.
     #[inline(always)]
-    fn enter(&mut self, number: u32, pc: u64, target: u64) -> Value {
-        self.entries[self.wrptr % ENTRIES] = record(number, pc, target);
+    fn enter_with_count(&mut self, number: u32, pc: u64, target: u64) -> Value {
+        let data = u64::from(number) | coded(self.counter, self.ccv);
+        self.counter = 0;
+        self.ccv = true;
+        self.enter(data, pc, target)
+    }
+
+    #[inline(always)]
+    fn enter(&mut self, data: u64, pc: u64, target: u64) -> Value {
+        self.entries[self.wrptr % ENTRIES] = record(data, pc, target);
         self.wrptr = (self.wrptr + 1) & self.last;
         Value::Recorded
     }
@@ -208,10 +246,13 @@ impl Recorder {
         cause: u64,
         epc: u64,
         handler: u64,
+        cycles: u64,
     ) -> Option<Value> {
         if !to.is_among(TRAPS[self.mode as usize]) {
             return None;
         }
+        let control = self.governing_control(to);
+        self.count_mode_change(control, cycles);
         let (number, freezing_cause, freezing_bit) = if is_interrupt {
             (INTERRUPT, COUNTER_OVERFLOW, LCOFIFRZ)
         } else {
@@ -221,25 +262,39 @@ impl Recorder {
             self.frozen = true;
             Value::Frozen
         } else {
-            self.record_trap(to, number, epc, handler)
+            self.record_trap(control, to, number, epc, handler)
         };
         self.mode = to;
         self.update_wanted();
         Some(value)
     }
 
+    /// The cycles of a trap or a return that this register governs.
+    #[inline(always)]
+    fn count_mode_change(&mut self, control: u64, cycles: u64) {
+        if self.wanted != 0 {
+            self.count(control & RASEMU != 0, cycles);
+        }
+    }
+
     /// The address of a mode that is off is recorded as 0.
     #[inline(always)]
-    fn record_trap(&mut self, to: Mode, number: u32, epc: u64, handler: u64) -> Value {
-        let control = self.governing_control(to);
+    fn record_trap(
+        &mut self,
+        control: u64,
+        to: Mode,
+        number: u32,
+        epc: u64,
+        handler: u64,
+    ) -> Value {
         if self.frozen || control & RASEMU != 0 {
             return Value::Nothing;
         }
         let is_inhibited = control >> (INHIBITS + number) & 1 == 1;
         match (self.is_on(self.mode), self.is_on(to)) {
-            (true, true) if !is_inhibited => self.enter(number, epc, handler),
-            (false, true) if !is_inhibited => self.enter(number, 0, handler),
-            (true, false) if self.shows_external_trap(to) => self.enter(number, epc, 0),
+            (true, true) if !is_inhibited => self.enter_with_count(number, epc, handler),
+            (false, true) if !is_inhibited => self.enter_with_count(number, 0, handler),
+            (true, false) if self.shows_external_trap(to) => self.enter_with_count(number, epc, 0),
             _ => Value::Nothing,
         }
     }
@@ -257,16 +312,17 @@ impl Recorder {
     }
 
     /// None if the mode change is not possible.
-    pub fn trap_return(&mut self, to: Mode, pc: u64, target: u64) -> Option<Value> {
+    pub fn trap_return(&mut self, to: Mode, pc: u64, target: u64, cycles: u64) -> Option<Value> {
         if !to.is_among(TRAP_RETURNS[self.mode as usize]) {
             return None;
         }
-        let is_kept_out = self.governing_control(to) & (RASEMU | TRETINH) != 0;
-        let value = if self.frozen || is_kept_out || !self.is_on(self.mode) {
+        let control = self.governing_control(to);
+        self.count_mode_change(control, cycles);
+        let value = if self.wanted == 0 || control & (RASEMU | TRETINH) != 0 {
             Value::Nothing
         } else {
             let target = if self.is_on(to) { target } else { 0 };
-            self.enter(TRAP_RETURN, pc, target)
+            self.enter_with_count(TRAP_RETURN, pc, target)
         };
         self.mode = to;
         self.update_wanted();
@@ -302,10 +358,10 @@ impl Recorder {
     }
 }
 
-fn record(number: u32, pc: u64, target: u64) -> Entry {
+fn record(data: u64, pc: u64, target: u64) -> Entry {
     Entry {
         source: pc | V,
         target: target & !1,
-        data: number.into(),
+        data,
     }
 }

@@ -1,8 +1,12 @@
 //! What is printed of a trace after its answers.
 
-use super::recorder::{Recorder, V};
+use super::cycles::valid_count;
+use super::recorder::{Entry, Recorder, V};
 use super::run::Run;
 use model::replay::{NUMBERS, TYPES, VALUES};
+
+/// The TYPE field of ctrdata.
+const TYPE: u64 = 0xF;
 
 impl Run {
     pub fn report(&self) -> String {
@@ -37,6 +41,8 @@ fn registers(recorder: &Recorder) -> String {
         ("vsiselect", recorder.vsiselect),
         ("mstateen0.CTR", recorder.mstateen0_ctr.into()),
         ("hstateen0.CTR", recorder.hstateen0_ctr.into()),
+        ("cycles", recorder.counter),
+        ("ccv", recorder.ccv.into()),
     ];
     let lines = readings.map(|(name, reading)| format!("{name} {reading:#x}\n"));
     format!("mode {:?}\n", recorder.mode) + &lines.concat()
@@ -47,9 +53,14 @@ fn valid_entries(recorder: &Recorder) -> String {
     (0..=recorder.last)
         .map(|index| (index, recorder.entries[recorder.physical(index)]))
         .filter(|(_, entry)| entry.source & V == V)
-        .map(|(index, entry)| {
-            let (source, name) = (entry.source & !V, TYPES[entry.data as usize]);
-            format!("{index} {source:#x} -> {:#x} {name}\n", entry.target)
-        })
+        .map(|(index, entry)| transfer(index, entry))
         .collect()
+}
+
+/// The count of cycles is shown only if it is valid.
+fn transfer(index: usize, entry: Entry) -> String {
+    let (source, target) = (entry.source & !V, entry.target);
+    let name = TYPES[(entry.data & TYPE) as usize];
+    let count = valid_count(entry.data).map_or(String::new(), |n| format!(" cycles {n}"));
+    format!("{index} {source:#x} -> {target:#x} {name}{count}\n")
 }

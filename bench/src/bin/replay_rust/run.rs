@@ -5,7 +5,8 @@ use super::recorder::{Mode, Recorder, Value};
 
 pub const ROW_BYTES: usize = 32;
 
-// The kinds of event, in the lowest byte of word 0, where other fields are above them.
+// The kinds of event, in the lowest byte of word 0, where other fields are above them. Cycles, of the
+// first three kinds only, are its upper half.
 const RETIRED: u64 = 0;
 const TRAP: u64 = 1;
 const TRAP_RETURN: u64 = 2;
@@ -46,31 +47,34 @@ impl Run {
     #[inline(always)]
     pub fn step(&mut self, row: &[u8; ROW_BYTES]) -> Option<Answer> {
         let [head, a, b, c] = words(row);
-        let (kind, fields) = (head % 256, head >> 8);
+        let (low, cycles) = (head % (1 << 32), head >> 32);
+        let (kind, fields) = (low % 256, low >> 8);
         // Most rows are of this kind, so it is asked for first.
         if kind == RETIRED && fields < 2 && a >> 32 == 0 {
-            let value = self.recorder.retire(a as u32, fields as u32, b, c);
+            let taken = fields as u32;
+            let value = self.recorder.retire(a as u32, taken, b, c, cycles);
             return Some(self.transfer(value));
         }
         match kind {
             TRAP if fields < 16 => {
                 let to = Mode::of(fields % 8)?;
-                let value = self.recorder.trap(to, fields >> 3 == 1, a, b, c);
+                let value = self.recorder.trap(to, fields >> 3 == 1, a, b, c, cycles);
                 Some(self.mode_change(value))
             }
             TRAP_RETURN if a == 0 => {
-                let value = self.recorder.trap_return(Mode::of(fields)?, b, c);
+                let to = Mode::of(fields)?;
+                let value = self.recorder.trap_return(to, b, c, cycles);
                 Some(self.mode_change(value))
             }
-            ACCESS if a < CSR_NUMBERS && c == 0 => {
+            ACCESS if a < CSR_NUMBERS && cycles | c == 0 => {
                 let reading = self.recorder.access(a, Change::of(fields, b)?);
                 Some(self.other(reading))
             }
-            SCTRCLR if fields | a | b | c == 0 => {
+            SCTRCLR if cycles | fields | a | b | c == 0 => {
                 let value = self.recorder.clear();
                 Some(self.other(value))
             }
-            HOST if fields < 4 && a | b | c == 0 => {
+            HOST if fields < 4 && cycles | a | b | c == 0 => {
                 self.recorder.mstateen0_ctr = fields & 1 == 1;
                 self.recorder.hstateen0_ctr = fields >> 1 == 1;
                 Some(self.other(Ok(0)))

@@ -10,6 +10,7 @@ const JAL: Event = Event::Retired(Retired {
     pc: 0x1000,
     target: 0x2000,
     taken: false,
+    cycles: 0,
 });
 
 const RETURN: Event = Event::Retired(Retired {
@@ -17,6 +18,7 @@ const RETURN: Event = Event::Retired(Retired {
     pc: 0x3000,
     target: 0x1004,
     taken: false,
+    cycles: 0,
 });
 
 fn read(csr: u64) -> Event {
@@ -47,6 +49,7 @@ fn return_to(target_mode: Mode) -> Event {
         target_mode,
         pc: 0x4000,
         target: 0x5000,
+        cycles: 0,
     })
 }
 
@@ -57,6 +60,7 @@ fn trap_to(target_mode: Mode) -> Event {
         cause: 8,
         epc: 0x6000,
         handler: 0x7000,
+        cycles: 0,
     })
 }
 

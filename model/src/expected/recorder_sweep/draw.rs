@@ -130,6 +130,9 @@ const CAUSES: [u64; 15] = [
 /// transfers out.
 const ALLOWED: [u64; 4] = [!0x80, 0x1B07, u64::MAX, 0x1B87];
 
+/// Counters are below this.
+const COUNTERS: u64 = 1 << 27;
+
 /// Random choices that are made from one random number.
 struct Choices(u64);
 
@@ -158,10 +161,10 @@ impl Random {
         }
     }
 
-    /// One of four is bad, in one of the four ways there are; a depth code and WRPTR may be as large
-    /// as they can be.
+    /// Five of sixteen are bad, in one of the five ways there are; a depth code, WRPTR and the counter
+    /// may be as large as they can be.
     fn registers(&mut self) -> Registers {
-        let [a, b, c, d, f] = self.draw_all();
+        let [a, b, c, d, f, g] = self.draw_all();
         let mut choices = Choices(a);
         let mode = mode(choices.below(5));
         let depth_code = choices.below(5);
@@ -181,12 +184,15 @@ impl Random {
             vsiselect: 0x200 + f / 0x100 % 0x100,
             mstateen0_ctr,
             hstateen0_ctr,
+            cycles: counter(g),
+            ccv: g / 4 % 2 == 1,
         };
         match choices.below(16) {
             0 => registers.depth_code = from_up(5, d),
             1 => registers.wrptr = from_up(depth, d),
             2 => registers.mctrctl |= 1 << 3,
             3 => registers.vsctrctl |= 1 << 2,
+            4 => registers.cycles = from_up(COUNTERS, d),
             _ => {}
         }
         registers
@@ -194,22 +200,24 @@ impl Random {
 
     /// An event for a machine that is in the mode `source`.
     pub(super) fn event(&mut self, source: Mode) -> Event {
-        let [k, w, x, y, z] = self.draw_all();
+        let [k, w, x, y, z, n] = self.draw_all();
         let (kind, c) = (k % 64, k / 64);
         let (x, y) = (address(x), address(y));
         match kind {
-            0..=29 => retired(w, x, y, c % 2 == 1),
+            0..=29 => retired(w, x, y, c % 2 == 1, cycles(n)),
             30..=37 => Event::Trap(Trap {
                 target_mode: trap_target(source, c),
                 is_interrupt: c / 16 % 2 == 1,
                 cause: cause(c / 32, z),
                 epc: x,
                 handler: y,
+                cycles: cycles(n),
             }),
             38..=45 => Event::TrapReturn(TrapReturn {
                 target_mode: return_target(source, c),
                 pc: x,
                 target: y,
+                cycles: cycles(n),
             }),
             46..=57 => Event::Access(Access {
                 operation: one_of(&Operation::ALL, c),
@@ -228,8 +236,9 @@ impl Random {
 
     /// A retired word, drawn without the numbers that other kinds of event need.
     pub(super) fn retired_word(&mut self) -> Event {
-        let [w, pc, target] = self.draw_all();
-        retired(w, address(pc), address(target), w / 256 % 2 == 1)
+        let [w, pc, target, n] = self.draw_all();
+        let (pc, target) = (address(pc), address(target));
+        retired(w, pc, target, w / 256 % 2 == 1, cycles(n))
     }
 }
 
@@ -278,8 +287,33 @@ fn resize(z: u64) -> Event {
     })
 }
 
+/// A counter that is 0, at its top, or of any length.
+fn counter(g: u64) -> u64 {
+    match g % 4 {
+        0 => 0,
+        1 => COUNTERS - 1,
+        _ => g / 8 % COUNTERS >> (g / (1 << 35) % 27),
+    }
+}
+
+/// Cycles: none, one, at the ends of what is coded exactly and of what the counter holds, all that a
+/// row can have, few, or any number of any length.
+pub(super) fn cycles(n: u64) -> u32 {
+    match n % 16 {
+        0 => 0,
+        1 => 1,
+        2 => 4095,
+        3 => 4096,
+        4 => 1 << 26,
+        5 => (1 << 27) - 1,
+        6 => u32::MAX,
+        7..=9 => (n / 16 % 64) as u32,
+        _ => (n / 16) as u32 >> (n / (1 << 48) % 32),
+    }
+}
+
 /// One of eight words is any word.
-fn retired(w: u64, pc: u64, target: u64, taken: bool) -> Event {
+fn retired(w: u64, pc: u64, target: u64, taken: bool, cycles: u32) -> Event {
     let word = match w % 8 {
         0 => (w / 8) as u32,
         _ => one_of(&WORDS, w / 8),
@@ -289,6 +323,7 @@ fn retired(w: u64, pc: u64, target: u64, taken: bool) -> Event {
         pc,
         target,
         taken,
+        cycles,
     })
 }
 
@@ -393,7 +428,29 @@ mod tests {
     }
 
     #[test]
-    fn depth_codes_and_pointers_go_up_to_the_largest() {
+    fn cycles_of_every_length_are_drawn_for_each_kind() {
+        let events = events();
+        let lengths: Vec<u32> = (0..=32).collect();
+        for kind in 0..3 {
+            let drawn = || {
+                events.iter().filter_map(move |event| match event {
+                    Event::Retired(e) if kind == 0 => Some(e.cycles),
+                    Event::Trap(e) if kind == 1 => Some(e.cycles),
+                    Event::TrapReturn(e) if kind == 2 => Some(e.cycles),
+                    _ => None,
+                })
+            };
+            let ends = [0, 1, 4095, 4096, 1 << 26, (1 << 27) - 1, u32::MAX];
+            assert!(all_in(&ends, drawn()));
+            assert!(all_in(
+                &lengths,
+                drawn().map(|cycles| 32 - cycles.leading_zeros())
+            ));
+        }
+    }
+
+    #[test]
+    fn depth_codes_pointers_and_counters_go_up_to_the_largest() {
         let mut random = Random::from_seed();
         let drawn: Vec<Registers> = (0..4000).map(|_| random.registers()).collect();
         let codes = || drawn.iter().map(|registers| registers.depth_code);
@@ -403,5 +460,9 @@ mod tests {
         let pointers = || drawn.iter().filter(good).map(|registers| registers.wrptr);
         assert!(all_in(&[16, 32, 64, 128, 255, 256, u64::MAX], pointers()));
         assert!(pointers().any(|wrptr| wrptr > 1 << 32 && wrptr < u64::MAX));
+        let counters = || drawn.iter().map(|registers| registers.cycles);
+        assert!(all_in(&[0, COUNTERS - 1, COUNTERS, u64::MAX], counters()));
+        let lengths: Vec<u32> = (0..=27).collect();
+        assert!(all_in(&lengths, counters().map(|n| 64 - n.leading_zeros())));
     }
 }

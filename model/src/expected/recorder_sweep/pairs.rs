@@ -1,9 +1,9 @@
 //! Pairs of lists that are equal but for what belongs to modes that are off: words retired there,
-//! and addresses on their side. The answers and the end states have to be equal.
+//! addresses on their side, and the cycles of traps and returns from them. The answers and the end states have to be equal.
 
 use std::mem;
 
-use super::draw::address;
+use super::draw::{address, cycles};
 use super::{with_answer, with_state};
 use crate::access::Answer;
 use crate::expected::random::Random;
@@ -75,6 +75,7 @@ struct Tally {
     struck_to_nothing: u32,
     words_struck: u32,
     addresses_differed: u32,
+    cycles_differed: u32,
     events_left: u32,
     answers_unequal: u32,
     end_states_unequal: u32,
@@ -116,6 +117,7 @@ impl Tally {
             ("struck to nothing", self.struck_to_nothing),
             ("words struck", self.words_struck),
             ("addresses differed", self.addresses_differed),
+            ("cycles differed", self.cycles_differed),
             ("events left", self.events_left),
             ("answers unequal", self.answers_unequal),
             ("end states unequal", self.end_states_unequal),
@@ -147,7 +149,9 @@ fn add_pair(tally: &mut Tally, random: &mut Random) {
         let event = random.event(a.mode());
         let mut other = event;
         let addresses = random.draw_all().map(address);
+        let number = cycles(random.draw());
         tally.addresses_differed += replace_addresses(&mut other, addresses, &a, &b);
+        tally.cycles_differed += u32::from(replace_cycles(&mut other, number, &a, &b));
         tally.add_answers((a.step(event), b.step(other)));
     }
     retire_words(&mut a, &mut b, random);
@@ -180,6 +184,17 @@ fn replace_addresses(event: &mut Event, [p, q]: [u64; 2], a: &Run, b: &Run) -> u
         differing += u32::from(mem::replace(target, q) != q);
     }
     differing
+}
+
+/// Replaces the cycles of a trap or return whose source mode is off in both runs, and tells whether
+/// they differ now.
+fn replace_cycles(event: &mut Event, number: u32, a: &Run, b: &Run) -> bool {
+    let cycles = match event {
+        Event::Trap(trap) => &mut trap.cycles,
+        Event::TrapReturn(trap_return) => &mut trap_return.cycles,
+        _ => return false,
+    };
+    a.is_off(a.mode()) && b.is_off(b.mode()) && mem::replace(cycles, number) != number
 }
 
 #[cfg(test)]

@@ -1,5 +1,6 @@
 //! Long lists of random events, each list from a random state.
 
+use super::counts::Counts;
 use super::depths::Depths;
 use super::edges::{Edges, RASEMU, TRETINH};
 use super::{with_answer, with_state};
@@ -16,7 +17,7 @@ const EVENTS: u32 = 400;
 /// How many it has from a bad state, where all events have the same answer.
 const EVENTS_IF_BAD: u32 = 40;
 
-/// How many events met FROZEN, how often each number was answered and each value, the edges and the depths that were met, and
+/// How many events met FROZEN, how often each number was answered and each value, the edges, the depths and the counts that were met, and
 /// digests of answers and of the states after them.
 #[derive(Default)]
 struct Tally {
@@ -27,6 +28,7 @@ struct Tally {
     values: [u32; 5],
     edges: Edges,
     depths: Depths,
+    counts: Counts,
     answers: u64,
     states: u64,
 }
@@ -54,6 +56,7 @@ impl Tally {
         }
         text += &self.edges.lines();
         text += &self.depths.lines();
+        text += &self.counts.lines();
         text += &format!("  answers 0x{:016x}\n", self.answers);
         text + &format!("  states 0x{:016x}\n", self.states)
     }
@@ -88,6 +91,9 @@ fn add_list(tally: &mut Tally, random: &mut Random, list: u64) {
             let value = (answer.number == 0 && event.is_transfer()).then_some(answer.value);
             deepest = deepest.max(before.depth());
             tally.depths.add(&before, &machine, value, deepest);
+            if answer.number == 0 {
+                tally.counts.add(event, &before, &machine, value);
+            }
         }
         tally.add(event, answer, &machine);
     }
@@ -131,5 +137,6 @@ mod tests {
         let others = [upper, wraps_up, wraps_down, back];
         let mut depths = changes.iter().flatten().chain(others);
         assert!(depths.all(|count| *count > 0), "{}", tally.lines());
+        assert!(!tally.counts.has_none(), "{}", tally.lines());
     }
 }

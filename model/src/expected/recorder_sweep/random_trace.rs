@@ -50,6 +50,7 @@ fn switching_on(random: &mut Random) -> [Event; 6] {
             cause: 7,
             epc: depth,
             handler: mctrctl,
+            cycles: 0,
         }),
         Event::Host {
             mstateen0_ctr: true,

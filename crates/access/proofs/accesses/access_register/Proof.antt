@@ -1,10 +1,9 @@
 -- `access::accesses::access_register` meets its contract. Assumes nothing.
-use Rattle.access.specs.Accesses.{accessTo}
+use Rattle.access.proofs.Laws.{registered}
 use Rattle.access.proofs.accesses.access_register.Statement.{statement}
 use Rattle.access.proofs.accesses.access_register.Tie as tie
 
 pub access-register-spec : {M : Type 1} → statement M
-unfolding accessTo
 access-register-spec =
     tie.close
     (tie.spec
@@ -12,4 +11,4 @@ access-register-spec =
     (λ c κs. tt)
     (λ c κs. tt)
     (λ c κs. tt)
-    (λ c. cc))
+    (λ c. search registered))

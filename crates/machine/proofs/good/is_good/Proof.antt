@@ -6,4 +6,4 @@ use Rattle.machine.proofs.good.is_good.Tie as tie
 
 pub is-good-spec : {M : Type 1} → statement M
 unfolding goodOf
-is-good-spec = tie.close (tie.spec (λ c κs. tt) (λ c κs. tt) (λ c. search picks depth 9) (λ c. search picks depth 9))
+is-good-spec = tie.close (tie.spec (λ c κs. tt) (λ c κs. tt) (λ c κs. tt) (λ c. search picks depth 9) (λ c. search picks depth 9) (λ c. search picks depth 9))

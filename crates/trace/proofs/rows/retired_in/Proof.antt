@@ -10,4 +10,5 @@ retired-in-spec =
     (tie.spec
     (λ c. search (needs, word-lt))
     (λ c κs. tt)
+    (λ c κs. tt)
     (λ c. cc))

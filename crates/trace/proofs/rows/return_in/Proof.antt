@@ -7,4 +7,5 @@ return-in-spec =
     tie.close
     (tie.spec
     (λ c κs. tt)
+    (λ c κs. tt)
     (λ c. cc))

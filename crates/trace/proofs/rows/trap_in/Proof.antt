@@ -8,4 +8,5 @@ trap-in-spec =
     (tie.spec
     (λ c κs. tt)
     (λ c κs. tt)
+    (λ c κs. tt)
     (λ c. cc))

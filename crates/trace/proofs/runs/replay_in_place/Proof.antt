@@ -8,7 +8,8 @@ pub replay-in-place-spec : {M : Type 1} → statement M
 replay-in-place-spec =
     tie.close
     (tie.spec
-    (λ c κs. search needs)
+    (λ c κs. tt)
+    (λ c κs. (search needs, (search needs, c .before .before .before .before .is-good .ensures)))
     (λ c. search seven)
     (λ c. search needs)
     (λ c. search with-room)

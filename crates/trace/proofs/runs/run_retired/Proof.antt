@@ -1,5 +1,5 @@
 -- `trace::runs::run_retired` meets its contract. Assumes nothing.
-use Rattle.trace.proofs.RunLaws.{run-yes, run-no}
+use Rattle.trace.proofs.RunLaws.{run-given, run-no}
 use Rattle.trace.specs.Rows.{retiredRow}
 use Rattle.trace.proofs.runs.run_retired.Statement.{statement}
 use Rattle.trace.proofs.runs.run_retired.Tie as tie
@@ -14,5 +14,5 @@ run-retired-spec =
     (λ c κs. tt)
     (λ c κs. tt)
     (λ c κs. tt)
-    (λ c. search (run-yes, run-no))
-    (λ c. search (run-yes, run-no)))
+    (λ c. search run-given)
+    (λ c. search run-no))

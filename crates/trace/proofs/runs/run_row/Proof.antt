@@ -24,5 +24,5 @@ run-row-spec =
     (λ c. search needs)
     (λ c. search needs)
     (λ c. search needs)
-    (λ c κs. tt)
+    (λ c κs. search needs)
     (λ c. c .run-words .ensures))

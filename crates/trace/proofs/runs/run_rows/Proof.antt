@@ -4,28 +4,30 @@ use Prim.Native.Nat.{ℕ, _-_, _≤_}
 use lib.ListN.{length}
 use native.Mathlib.Omega.{arith}
 use borrow.Author.Needs.{needs}
+use Rattle.machine.specs.Good.{goodOf}
 use Rattle.recorder.specs.Entries.{entriesOf}
 use Rattle.recorder.specs.Steps.{stateOf}
 use Rattle.trace.specs.Runs.{leading, runOf}
-use Rattle.trace.proofs.RunLaws.{row-yes, negated, again, leading-more, ended, stopped}
+use Rattle.trace.proofs.RunLaws.{row-yes, row-good, negated, again, leading-more, ended, stopped}
 use Rattle.trace.proofs.runs.run_rows.Statement.{statement}
 use Rattle.trace.proofs.runs.run_rows.Tie as tie
 
 abbrev Inv-loop : tie.InvT-loop
-Inv-loop ctrsource₀ ctrtarget₀ ctrdata₀ rows answers₀ n registers₀ i₀ ctrsource ctrtarget ctrdata answers registers i =
+Inv-loop ctrsource₀ ctrtarget₀ ctrdata₀ good rows answers₀ n registers₀ i₀ ctrsource ctrtarget ctrdata answers registers i =
     (i ≤ n) × (length answers ≡ length answers₀) × (leading rows i ≡ i)
     × (runOf rows (stateOf registers₀ (entriesOf ctrsource₀ ctrtarget₀ ctrdata₀)) answers₀ i
     ≡ record { state = stateOf registers (entriesOf ctrsource ctrtarget ctrdata); answers = answers })
+    × (good ≡ goodOf registers)
 
 abbrev μ-loop : tie.MeasureT-loop
-μ-loop ctrsource₀ ctrtarget₀ ctrdata₀ rows answers₀ n registers₀ i₀ ctrsource ctrtarget ctrdata answers registers i = n - i
+μ-loop ctrsource₀ ctrtarget₀ ctrdata₀ good rows answers₀ n registers₀ i₀ ctrsource ctrtarget ctrdata answers registers i = n - i
 
 apart-requires : tie.Need-apart-requires Inv-loop μ-loop
 apart-requires c κs = tt
 
 loop-holds : tie.Need-loop-holds Inv-loop μ-loop
 unfolding leading runOf
-loop-holds c = search needs
+loop-holds c = (search needs, search needs, refl, refl, rw (c .apart .ensures) (search needs))
 
 run-row-requires : tie.Need-run-row-requires Inv-loop μ-loop
 run-row-requires c κs = search needs
@@ -42,7 +44,7 @@ returns c =
     (stopped _ _ _ _ _ _ _ _ (at .loop-test .taken) (loop .loop .inv .2) (loop .loop .inv .3) (row .run-row .ensures) (negated _ (c .if1 .taken)))
 
 answer-requires : tie.Need-answer-requires Inv-loop μ-loop
-answer-requires c κs = search needs
+answer-requires c κs = let at = c .before .before .before .before .before .before .before .before in search (needs, at)
 
 apart-requires-2 : tie.Need-apart-requires-2 Inv-loop μ-loop
 apart-requires-2 c κs = tt
@@ -64,6 +66,7 @@ loop-again c =
       search needs,
       leading-more _ _ (loop .loop .inv .2) (row-yes _ _ _ (row .run-row .ensures) well-formed),
       rw (c .apart2 .ensures) (again _ _ _ _ _ _ _ _ (loop .loop .inv .3) (row .run-row .ensures) well-formed (c .before .before .before .answer .ensures)),
+      rw (c .apart2 .ensures) (loop .loop .inv .4 ∙ sym (row-good _ _ _ (row .run-row .ensures))),
     )
 
 same-length-2 : tie.Need-same-length-2 Inv-loop μ-loop

@@ -1,4 +1,5 @@
 -- `trace::runs::run_words` meets its contract. Assumes nothing.
+use borrow.Author.Needs.{needs}
 use Rattle.trace.proofs.RunLaws.{by-kind, retired-first}
 use Rattle.trace.proofs.runs.run_words.Statement.{statement}
 use Rattle.trace.proofs.runs.run_words.Tie as tie
@@ -8,7 +9,7 @@ run-words-spec =
     tie.close
     (tie.spec
     (λ c κs. tt)
-    (λ c κs. tt)
+    (λ c κs. search needs)
     (λ c κs. tt)
     (λ c κs. (cc, cc))
     (λ c. search retired-first)
