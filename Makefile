@@ -33,12 +33,13 @@ examples: archive ## build and run the C and the Rust program of examples/
 
 bench: archive program ## time the classifier, replay and single steps beside Rust programs
 	@$(call quietly,rt check step_bench)
+	@$(call quietly,(cd bench && $(CARGO) test --release --offline))
 	@cd bench && $(CARGO) build --release --offline --quiet
 	@cd bench && target/release/bench
 	@cd bench && target/release/replay
 	@cd bench && target/release/steps
 
-every-word: archive ## compare with the model on all 2^32 words (about a minute)
+every-word: archive ## compare with the model on all 2^32 words (some two minutes)
 	@cd bench && $(CARGO) run --release --offline --quiet --bin every_word
 
 expected: ## write the programs' expected output anew, from the model

@@ -22,7 +22,8 @@ uint8_t ctr_classify(uint32_t word, bool taken);
 
 /* Puts the type of each word, a branch as taken, into 'types': as many as both arrays hold, which
  * is also the answer. Further places of 'types' stay as they were. The arrays must not overlap,
- * and neither pointer may be null, even with a count of 0. */
+ * and neither pointer may be null, even with a count of 0. From 8,192 words on it goes by a table
+ * that it fills first, some 5 KB on the stack, so one long run is quicker than many short ones. */
 size_t ctr_classify_all(const uint32_t *words, size_t word_count, uint8_t *types, size_t type_count);
 
 #ifdef __cplusplus

@@ -1,18 +1,9 @@
-//! The proved code's functions, as safe Rust.
+//! The proved classifier as safe Rust, and classifiers in Rust that it is timed beside.
 
-mod ffi {
-    extern "C" {
-        pub fn ctr_classify_all(
-            words: *const u32,
-            word_count: usize,
-            types: *mut u8,
-            type_count: usize,
-        ) -> usize;
-    }
-}
+pub mod classifiers;
 
-/// The type of each word, a branch as taken, for as many as both slices hold.
-pub fn classify_all(words: &[u32], types: &mut [u8]) -> usize {
-    // SAFETY: both slices are valid for their lengths, and `types` is borrowed by nobody else.
-    unsafe { ffi::ctr_classify_all(words.as_ptr(), words.len(), types.as_mut_ptr(), types.len()) }
-}
+// Left out of tests, which are so built without the archive.
+#[cfg(not(test))]
+mod proved;
+#[cfg(not(test))]
+pub use self::proved::{classify, classify_all};

@@ -1,5 +1,6 @@
-//! Times the proved classifier beside the model's, on the same words, in one run.
+//! Times the proved classifier beside classifiers in Rust, on the same words, in one run.
 
+use bench::classifiers::{Classifier, BEFORE, LARGE, SMALL};
 use bench::classify_all;
 use model::classifier::transfer_type;
 use model::digest::{xorshift64, SEED};
@@ -8,15 +9,6 @@ use std::time::Instant;
 
 const WORDS: usize = 1_000_000;
 const ROUNDS: usize = 20;
-
-/// The same by the model.
-fn model_all(words: &[u32], types: &mut [u8]) -> usize {
-    let count = words.len().min(types.len());
-    for (word, place) in words.iter().zip(types.iter_mut()) {
-        *place = transfer_type(*word, true);
-    }
-    count
-}
 
 /// A 32-bit control transfer: JALR, JAL or a branch, with link registers as often as others.
 fn control_transfer(choice: u32, bits: u32) -> u32 {
@@ -46,25 +38,73 @@ fn mixed_words() -> Vec<u32> {
     (0..WORDS).map(|_| mixed()).collect()
 }
 
-/// The least time of several rounds, in ns a word.
-fn best(classify: fn(&[u32], &mut [u8]) -> usize, words: &[u32], types: &mut [u8]) -> f64 {
-    let mut least = f64::INFINITY;
-    for _ in 0..ROUNDS {
-        let start = Instant::now();
-        black_box(classify(black_box(words), black_box(types)));
-        least = least.min(start.elapsed().as_secs_f64());
+/// Panics if one of the answers is not the model's.
+fn check(classifier: &Classifier, words: &[u32], types: &mut [u8]) {
+    let name = classifier.name;
+    types.fill(u8::MAX);
+    let count = (classifier.classify_all)(words, types);
+    assert_eq!(count, words.len(), "{name}: how many words are sorted");
+    for (&word, &number) in words.iter().zip(types.iter()) {
+        let expected = transfer_type(word, true);
+        assert_eq!(number, expected, "{name}: the type of {word:#010x}");
     }
-    least * 1e9 / words.len() as f64
+}
+
+/// The time of one round, in ns a word.
+fn time(classifier: &Classifier, words: &[u32], types: &mut [u8]) -> f64 {
+    let start = Instant::now();
+    black_box((classifier.classify_all)(
+        black_box(words),
+        black_box(types),
+    ));
+    start.elapsed().as_secs_f64() * 1e9 / words.len() as f64
+}
+
+/// The least time of each in several rounds, in which they take turns.
+fn best(classifiers: &[Classifier], words: &[u32], types: &mut [u8]) -> Vec<f64> {
+    let mut least = vec![f64::INFINITY; classifiers.len()];
+    for _ in 0..ROUNDS {
+        for (classifier, least) in classifiers.iter().zip(&mut least) {
+            *least = least.min(time(classifier, words, types));
+        }
+    }
+    least
 }
 
 fn main() {
+    let ours = Classifier {
+        name: "ours",
+        classify_all,
+    };
+    let mut classifiers = vec![ours, BEFORE];
+    classifiers.extend(SMALL);
+    classifiers.push(LARGE);
     let words = mixed_words();
-    let (mut a, mut b) = (vec![0; WORDS], vec![0; WORDS]);
-    let ours_ns = best(classify_all, &words, &mut a);
-    let rust_ns = best(model_all, &words, &mut b);
-    assert!(a == b, "the two classifiers differ");
+    let mut types = vec![0; WORDS];
+    for classifier in &classifiers {
+        check(classifier, &words, &mut types);
+    }
+    let times = best(&classifiers, &words, &mut types);
+    report(times[0], times[1], &times[2..]);
+}
+
+/// `rust` has the times of `SMALL`, then that of `LARGE`.
+fn report(ours: f64, before: f64, rust: &[f64]) {
+    let faster = before / ours;
     println!(
-        "classifier: ours {ours_ns:.2} ns, rust {rust_ns:.2} ns, ratio {:.2}",
-        ours_ns / rust_ns
+        "classifier: ours {ours:.2} ns a word, before, in Rust, {before:.2} ns: {faster:.1} times as fast"
+    );
+    for (Classifier { name, .. }, ns) in SMALL.iter().chain([&LARGE]).zip(rust) {
+        let ratio = ours / ns;
+        println!("classifier, rust {name}: {ns:.2} ns, ours {ratio:.2} of it");
+    }
+    let (Classifier { name, .. }, ns) = SMALL
+        .iter()
+        .zip(rust)
+        .min_by(|a, b| a.1.total_cmp(b.1))
+        .expect("there are some");
+    let ratio = ours / ns;
+    println!(
+        "classifier: ours {ratio:.2} of the best in Rust with no table larger than 4 KB ({name}, {ns:.2} ns)"
     );
 }

@@ -1,6 +1,7 @@
-//! Holds the proved classifier to the model on every one of the 2^32 words.
+//! Holds the proved classifier to the model on every one of the 2^32 words: in long runs, which go by
+//! a table, and one by one, taken and not.
 
-use bench::classify_all;
+use bench::{classify, classify_all};
 use model::classifier::transfer_type;
 
 const BLOCK: usize = 1 << 20;
@@ -15,8 +16,12 @@ fn main() {
         classify_all(&words, &mut types);
         for (&word, &kind) in words.iter().zip(&types) {
             let expected = transfer_type(word, true);
-            assert_eq!(kind, expected, "the type of {word:#010x}");
+            assert_eq!(kind, expected, "the type of {word:#010x} in a run");
+            for taken in [true, false] {
+                let expected = transfer_type(word, taken);
+                assert_eq!(classify(word, taken), expected, "the type of {word:#010x}");
+            }
         }
     }
-    println!("every word: 4294967296 of 4294967296 agree with the model");
+    println!("every word: 4294967296 of 4294967296 agree with the model, in runs and one by one");
 }

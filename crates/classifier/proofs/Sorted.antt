@@ -1,17 +1,20 @@
--- The table sorted as the code decides: by the two low bits, then by opcode, then by the fields. In each case exactly the
--- row that the code answers has the word. Assumes nothing.
+-- Exactly one row of the table has a word, or none, and it is the one that the code decides on. Both hang on no more than the
+-- word's specimen has, and of all specimens they are computed. Assumes nothing.
 use mathlib.Core.Path.{_≡_, refl, sym, ap, _∙_}
-use mathlib.Core.Bool.{Bool, true, false, and-false}
+use mathlib.Core.Bool.{Bool, true, false, not, _&&_, and-true, and-false}
 use mathlib.Core.Logic.{inl, inr}
-use Prim.Native.Nat.{ℕ, _%_}
+use Prim.Native.Nat.{ℕ, _%_, _<_}
 use native.Mathlib.Omega.{arith}
 use lib.Dec.{eqb}
 use borrow.Author.Tests.{eqb-false, ne-eqb}
 use Rattle.bits.specs.Choice.{if_then_else_}
-use Rattle.bits.proofs.Cases.{Known, known}
+use Rattle.bits.specs.Words.{fieldAt}
+use Rattle.bits.proofs.Cases.{Known, known, both, allBelow, passed}
 use Rattle.classifier.specs.Instructions.{opcode, rd, funct3, rs1, C·op, C·funct3, C·funct4, C·rs1, C·rs2}
 use Rattle.classifier.specs.Transfers.{isBranch, isIndirectCall, isDirectCall, isIndirectJump, isDirectJump, isCoroutineSwap, isFunctionReturn, isOtherIndirectJump, isOtherDirectJump, transferOf, typeOf}
-use Rattle.classifier.specs.Decision.{branchBy, indirectBy, directBy, jalrBy, wideBy, quadrant1By, registerJumpBy, quadrant2By}
+use Rattle.classifier.specs.Decision.{branchBy, indirectBy, directBy, jalrBy, wideBy, quadrant1By, registerJumpBy, decisionOf}
+use Rattle.classifier.specs.Tables.{opcodeOf, registerOf, keyOf, specimenOf}
+use Rattle.classifier.proofs.Specimens.{Alike, alike, same, is-same, key-bound}
 use Rattle.classifier.specs.declared.Transfer.{Transfer}
 use Rattle.classifier.specs.declared.Transfer.the-variants.{None, Branch, IndirectCall, DirectCall, IndirectJump, DirectJump, CoroutineSwap, FunctionReturn, OtherIndirectJump, OtherDirectJump}
 
@@ -71,102 +74,19 @@ module _ (w : ℕ) (narrow : C·op w ≡ 3 → ⊥) where
   pub no-jal : eqb (opcode w) 0x6F ≡ false
   no-jal = no-opcode 0x6F refl
 
-  ruleset no-wide = (no-branch, no-jalr, no-jal)
-
-  pub in-quadrant0 : eqb (C·op w) 1 ≡ false → eqb (C·op w) 2 ≡ false → Sorted w None
-  unfolding rowsOf
-  in-quadrant0 a b = simp (no-wide, a, b)
-
-  quadrant1 : C·op w ≡ 1 → Known (C·funct3 w) 5 → Known (C·funct3 w) 6 → Known (C·funct3 w) 7
-      → Sorted w (quadrant1By (C·funct3 w))
-  unfolding rowsOf quadrant1By directBy
-  quadrant1 h (inl a) b c = simp (no-wide, h, a)
-  quadrant1 h (inr a) (inl b) c = simp (no-wide, h, b)
-  quadrant1 h (inr a) (inr b) (inl c) = simp (no-wide, h, c)
-  quadrant1 h (inr a) (inr b) (inr c) = simp (no-wide, h, a, b, c)
-
-  pub in-quadrant1 : C·op w ≡ 1 → Sorted w (quadrant1By (C·funct3 w))
-  in-quadrant1 h = quadrant1 h (known _ 5) (known _ 6) (known _ 7)
-
-  -- C.JR and C.JALR, by rs1, rs2 and funct4
-  quadrant2 : C·op w ≡ 2 → Known (C·rs1 w) 0 → Known (C·rs2 w) 0
-      → Known (C·funct4 w) 8 → Known (C·funct4 w) 9 → Known (C·rs1 w) 1 → Known (C·rs1 w) 5
-      → Sorted w (quadrant2By (C·funct4 w) (C·rs1 w) (C·rs2 w))
-  unfolding rowsOf quadrant2By registerJumpBy indirectBy
-  quadrant2 h (inl s) t f g a b = simp (no-wide, h, s, and-false)
-  quadrant2 h (inr s) (inr t) f g a b = simp (no-wide, h, s, t, and-false)
-  quadrant2 h (inr s) (inl t) (inl f) g (inl a) b = simp (no-wide, h, t, f, a)
-  quadrant2 h (inr s) (inl t) (inl f) g (inr a) (inl b) = simp (no-wide, h, t, f, b)
-  quadrant2 h (inr s) (inl t) (inl f) g (inr a) (inr b) = simp (no-wide, h, s, t, f, a, b)
-  quadrant2 h (inr s) (inl t) (inr f) (inl g) (inl a) b = simp (no-wide, h, t, g, a)
-  quadrant2 h (inr s) (inl t) (inr f) (inl g) (inr a) (inl b) = simp (no-wide, h, t, g, b)
-  quadrant2 h (inr s) (inl t) (inr f) (inl g) (inr a) (inr b) = simp (no-wide, h, s, t, g, a, b)
-  quadrant2 h (inr s) (inl t) (inr f) (inr g) a b = simp (no-wide, h, s, t, f, g)
-
-  pub in-quadrant2 : C·op w ≡ 2 → Sorted w (quadrant2By (C·funct4 w) (C·rs1 w) (C·rs2 w))
-  in-quadrant2 h = quadrant2 h (known _ 0) (known _ 0) (known _ 8) (known _ 9) (known _ 1) (known _ 5)
-
--- a 32-bit instruction
-module _ (w : ℕ) (h : C·op w ≡ 3) where
-  branches : opcode w ≡ 0x63 → Known (funct3 w) 0 → Known (funct3 w) 1 → Known (funct3 w) 4
-      → Known (funct3 w) 5 → Known (funct3 w) 6 → Known (funct3 w) 7
-      → Sorted w (branchBy (funct3 w))
-  unfolding rowsOf branchBy
-  branches o (inl a) b c d e f = simp (h, o, a)
-  branches o (inr a) (inl b) c d e f = simp (h, o, b)
-  branches o (inr a) (inr b) (inl c) d e f = simp (h, o, c)
-  branches o (inr a) (inr b) (inr c) (inl d) e f = simp (h, o, d)
-  branches o (inr a) (inr b) (inr c) (inr d) (inl e) f = simp (h, o, e)
-  branches o (inr a) (inr b) (inr c) (inr d) (inr e) (inl f) = simp (h, o, f)
-  branches o (inr a) (inr b) (inr c) (inr d) (inr e) (inr f) = simp (h, o, a, b, c, d, e, f)
-
-  -- JALR, by rd and rs1
-  jumps : opcode w ≡ 0x67 → funct3 w ≡ 0 → Known (rd w) 0 → Known (rd w) 1 → Known (rd w) 5 → Known (rs1 w) 1 → Known (rs1 w) 5
-      → Sorted w (indirectBy (rd w) (rs1 w))
-  unfolding rowsOf indirectBy
-  jumps o f (inl z) a b (inl c) d = simp (h, o, f, z, c)
-  jumps o f (inl z) a b (inr c) (inl d) = simp (h, o, f, z, d)
-  jumps o f (inl z) a b (inr c) (inr d) = simp (h, o, f, z, c, d)
-  jumps o f (inr z) (inl a) b (inl c) d = simp (h, o, f, a, c)
-  jumps o f (inr z) (inl a) b (inr c) (inl d) = simp (h, o, f, a, d)
-  jumps o f (inr z) (inl a) b (inr c) (inr d) = simp (h, o, f, a, c, d)
-  jumps o f (inr z) (inr a) (inl b) (inl c) d = simp (h, o, f, b, c)
-  jumps o f (inr z) (inr a) (inl b) (inr c) (inl d) = simp (h, o, f, b, d)
-  jumps o f (inr z) (inr a) (inl b) (inr c) (inr d) = simp (h, o, f, b, c, d)
-  jumps o f (inr z) (inr a) (inr b) (inl c) d = simp (h, o, f, z, a, b, c)
-  jumps o f (inr z) (inr a) (inr b) (inr c) (inl d) = simp (h, o, f, z, a, b, d)
-  jumps o f (inr z) (inr a) (inr b) (inr c) (inr d) = simp (h, o, f, z, a, b, c, d)
-
-  reserved : opcode w ≡ 0x67 → eqb (funct3 w) 0 ≡ false → Sorted w None
-  unfolding rowsOf
-  reserved o f = simp (h, o, f)
-
-  jalr : opcode w ≡ 0x67 → Known (funct3 w) 0 → Sorted w (jalrBy (funct3 w) (rd w) (rs1 w))
-  unfolding jalrBy
-  jalr o (inl f) = rw f (jumps o f (known _ 0) (known _ 1) (known _ 5) (known _ 1) (known _ 5))
-  jalr o (inr f) = rw f (reserved o f)
-
-  jal : opcode w ≡ 0x6F → Known (rd w) 0 → Known (rd w) 1 → Known (rd w) 5 → Sorted w (directBy (rd w))
-  unfolding rowsOf directBy
-  jal o (inl z) a b = simp (h, o, z)
-  jal o (inr z) (inl a) b = simp (h, o, a)
-  jal o (inr z) (inr a) (inl b) = simp (h, o, b)
-  jal o (inr z) (inr a) (inr b) = simp (h, o, z, a, b)
-
-  no-transfer : eqb (opcode w) 0x63 ≡ false → eqb (opcode w) 0x67 ≡ false → eqb (opcode w) 0x6F ≡ false → Sorted w None
-  unfolding rowsOf
-  no-transfer o p q = simp (h, o, p, q)
-
-  wide : Known (opcode w) 0x63 → Known (opcode w) 0x67 → Known (opcode w) 0x6F
-      → Sorted w (wideBy (opcode w) (funct3 w) (rd w) (rs1 w))
-  unfolding wideBy
-  wide (inl o) p q = rw o (branches o (known _ 0) (known _ 1) (known _ 4) (known _ 5) (known _ 6) (known _ 7))
-  wide (inr o) (inl p) q = rw p (jalr p (known _ 0))
-  wide (inr o) (inr p) (inl q) = rw q (jal q (known _ 0) (known _ 1) (known _ 5))
-  wide (inr o) (inr p) (inr q) = rw (o, p, q) (no-transfer o p q)
-
-  pub in-wide : Sorted w (wideBy (opcode w) (funct3 w) (rd w) (rs1 w))
-  in-wide = wide (known _ 0x63) (known _ 0x67) (known _ 0x6F)
+-- the opcode of C.JR and C.JALR
+register-jumps : (w f : ℕ) → (eqb (C·op w) 2 && eqb (C·funct4 w) f && not (eqb (C·rs1 w) 0) && eqb (C·rs2 w) 0)
+    ≡ (eqb (opcode w) 2 && eqb (C·funct4 w) f && not (eqb (C·rs1 w) 0))
+register-jumps w f = go (known (opcode w) 2) (known (C·op w) 2)
+  where
+    go : Known (opcode w) 2 → Known (C·op w) 2 → (eqb (C·op w) 2 && eqb (C·funct4 w) f && not (eqb (C·rs1 w) 0) && eqb (C·rs2 w) 0)
+        ≡ (eqb (opcode w) 2 && eqb (C·funct4 w) f && not (eqb (C·rs1 w) 0))
+    go (inl o) p =
+        let a : C·op w ≡ 2 = omega arith in
+        let b : C·rs2 w ≡ 0 = omega arith in
+        simp (o, a, b, and-true)
+    go (inr o) (inl p) = let b : eqb (C·rs2 w) 0 ≡ false = ne-eqb (C·rs2 w) 0 (λ (z : C·rs2 w ≡ 0). eqb-false (opcode w) 2 o (omega arith)) in simp (o, p, b, and-false)
+    go (inr o) (inr p) = simp (o, p)
 
 -- the first row that has the word
 chosen : Rows → Transfer
@@ -198,19 +118,103 @@ chosen-only OtherDirectJump = refl
 pub distinct : (t u : Transfer) → typeOf t true ≡ typeOf u true → t ≡ u
 distinct t u h = sym (chosen-only t) ∙ ap (λ (n : ℕ). chosen (only n)) h ∙ chosen-only u
 
-pub transfer : (w : ℕ) (t : Transfer) → Sorted w t → t ≡ transferOf w
+transfer : (w : ℕ) (t : Transfer) → Sorted w t → t ≡ transferOf w
 unfolding transferOf rowsOf chosen
 transfer w t h = sym (chosen-only t) ∙ sym (ap chosen h)
 
+-- the decision by what `Alike` has: a 32-bit word whose bits 6..4 are not 110 has none of the three opcodes
+plainOf : ℕ → Transfer
+plainOf w =
+    if eqb (opcode w) 0x63 then branchBy (funct3 w)
+    else (if eqb (opcode w) 0x6F then directBy (rd w)
+    else (if eqb (opcode w) 0x67 then jalrBy (funct3 w) (rd w) (rs1 w)
+    else (if eqb (C·op w) 1 then quadrant1By (C·funct3 w)
+    else (if eqb (opcode w) 2 then registerJumpBy (C·funct4 w) (C·rs1 w) else None))))
+
+plain : (w : ℕ) → decisionOf w ≡ plainOf w
+unfolding decisionOf plainOf wideBy
+plain w = go (known (C·op w) 3) (known (fieldAt w 4 3) 6)
+  where
+    go : Known (C·op w) 3 → Known (fieldAt w 4 3) 6 → decisionOf w ≡ plainOf w
+    go (inr n) m = simp (n, no-branch w (eqb-false _ 3 n), no-jalr w (eqb-false _ 3 n), no-jal w (eqb-false _ 3 n))
+    go (inl n) (inl m) =
+        let o : eqb (opcode w) 2 ≡ false = ne-eqb (opcode w) 2 (λ (z : opcode w ≡ 2). omega arith) in simp (n, m, o)
+    go (inl n) (inr m) =
+        let no : (k : ℕ) → fieldAt k 4 3 ≡ 6 → k < 128 → eqb (opcode w) k ≡ false = (λ k e l. ne-eqb (opcode w) k (λ (z : opcode w ≡ k). eqb-false (fieldAt w 4 3) 6 m (omega arith))) in
+        let o : eqb (opcode w) 2 ≡ false = ne-eqb (opcode w) 2 (λ (z : opcode w ≡ 2). omega arith) in
+        simp (n, m, o, no 0x63 refl (omega arith), no 0x67 refl (omega arith), no 0x6F refl (omega arith))
+
+-- words that are alike are in the same rows, and decided on alike
+same-answers : (w v : ℕ) → Alike w v → (rowsOf w ≡ rowsOf v) × (plainOf w ≡ plainOf v)
+unfolding rowsOf plainOf branchBy directBy jalrBy indirectBy quadrant1By registerJumpBy
+same-answers w v a =
+    simp (register-jumps w 8, register-jumps w 9, register-jumps v 8, register-jumps v 9)
+    (simp (
+      a .opcode-63,
+      a .opcode-67,
+      a .opcode-6F,
+      a .opcode-02,
+      a .op-1,
+      a .rd-0,
+      a .rd-1,
+      a .rd-5,
+      a .f3,
+      a .c-f3,
+      a .c-f4,
+      a .rs1-1,
+      a .rs1-5,
+    ) (refl, refl))
+
+-- nine answers that are those of type n
+agrees : Rows → ℕ → Bool
+agrees r n =
+    same (r .r5) (eqb n 5) && (same (r .r8) (eqb n 8) && (same (r .r9) (eqb n 9) && (same (r .r10) (eqb n 10) && (same (r .r11) (eqb n 11)
+    && (same (r .r12) (eqb n 12) && (same (r .r13) (eqb n 13) && (same (r .r14) (eqb n 14) && same (r .r15) (eqb n 15))))))))
+
+made : (a b c d e f g h i : Bool) (n : ℕ) → a ≡ eqb n 5 → b ≡ eqb n 8 → c ≡ eqb n 9 → d ≡ eqb n 10 → e ≡ eqb n 11 → f ≡ eqb n 12
+    → g ≡ eqb n 13 → h ≡ eqb n 14 → i ≡ eqb n 15
+    → record { r5 = a; r8 = b; r9 = c; r10 = d; r11 = e; r12 = f; r13 = g; r14 = h; r15 = i } ≡ only n
+made a b c d e f g h i n p q r s t u v x y = rw (p, q, r, s, t, u, v, x, y) refl
+
+agreeing : (r : Rows) (n : ℕ) → agrees r n ≡ true → r ≡ only n
+unfolding agrees
+agreeing r n h =
+    let a = both (same (r .r5) (eqb n 5)) _ h in
+    let b = both (same (r .r8) (eqb n 8)) _ (a .1) in
+    let c = both (same (r .r9) (eqb n 9)) _ (b .1) in
+    let d = both (same (r .r10) (eqb n 10)) _ (c .1) in
+    let e = both (same (r .r11) (eqb n 11)) _ (d .1) in
+    let f = both (same (r .r12) (eqb n 12)) _ (e .1) in
+    let g = both (same (r .r13) (eqb n 13)) _ (f .1) in
+    let i = both (same (r .r14) (eqb n 14)) _ (g .1) in
+    made (r .r5) (r .r8) (r .r9) (r .r10) (r .r11) (r .r12) (r .r13) (r .r14) (r .r15) n
+    (is-same _ _ (a .0)) (is-same _ _ (b .0)) (is-same _ _ (c .0)) (is-same _ _ (d .0)) (is-same _ _ (e .0))
+    (is-same _ _ (f .0)) (is-same _ _ (g .0)) (is-same _ _ (i .0)) (is-same _ _ (i .1))
+
+-- computed of all specimens: the row of what is decided has it, and no other row
+fits : ℕ → Bool
+fits k = agrees (rowsOf (specimenOf k)) (typeOf (plainOf (specimenOf k)) true)
+
+computed : allBelow fits 1024 ≡ true
+unfolding fits agrees same rowsOf specimenOf opcodeOf registerOf plainOf branchBy directBy jalrBy indirectBy quadrant1By registerJumpBy
+computed = refl
+
+-- so it is of all words
+plain-sorted : (w : ℕ) → Sorted w (plainOf w)
+unfolding fits
+plain-sorted w =
+    let a = same-answers w (specimenOf (keyOf w)) (alike w) in
+    a .0 ∙ agreeing _ _ (passed fits 1024 (keyOf w) computed (key-bound w)) ∙ ap (λ (t : Transfer). only (typeOf t true)) (sym (a .1))
+
+-- the code decides on a word's transfer
+pub decided : (w : ℕ) → decisionOf w ≡ transferOf w
+decided w = plain w ∙ transfer w (plainOf w) (plain-sorted w)
+
 -- exactly the row of a word's transfer has the word
 pub sorted : (w : ℕ) → Sorted w (transferOf w)
-sorted w = go (known (C·op w) 1) (known (C·op w) 2) (known (C·op w) 3)
-  where
-    found : (t : Transfer) → Sorted w t → Sorted w (transferOf w)
-    found t h = rw (← transfer w t h) h
+sorted w = rw (← transfer w (plainOf w) (plain-sorted w)) (plain-sorted w)
 
-    go : Known (C·op w) 1 → Known (C·op w) 2 → Known (C·op w) 3 → Sorted w (transferOf w)
-    go (inl a) b c = found (quadrant1By (C·funct3 w)) (in-quadrant1 w (λ n. omega arith) a)
-    go (inr a) (inl b) c = found (quadrant2By (C·funct4 w) (C·rs1 w) (C·rs2 w)) (in-quadrant2 w (λ n. omega arith) b)
-    go (inr a) (inr b) (inl c) = found (wideBy (opcode w) (funct3 w) (rd w) (rs1 w)) (in-wide w c)
-    go (inr a) (inr b) (inr c) = found None (in-quadrant0 w (eqb-false (C·op w) 3 c) a b)
+-- a word's transfer is that of the specimen of its key
+pub specimen-transfer : (w : ℕ) → transferOf (specimenOf (keyOf w)) ≡ transferOf w
+unfolding transferOf rowsOf chosen
+specimen-transfer w = sym (ap chosen (same-answers w (specimenOf (keyOf w)) (alike w) .0))

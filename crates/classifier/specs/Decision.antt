@@ -1,8 +1,11 @@
--- How the code decides: by the opcode, or the quadrant of a 16-bit instruction, and then by the fields. It is the table
--- sorted otherwise, as proofs/Sorted.antt shows. Nothing outside this crate cites it.
+-- How the code decides on one word: by the opcode, or the quadrant of a 16-bit instruction, and then by the fields. It is the
+-- table sorted otherwise, as proofs/Sorted.antt shows. Nothing outside this crate cites it.
 use Prim.Native.Nat.{ℕ}
+use mathlib.Core.Bool.{Bool}
 use lib.Dec.{eqb}
 use Rattle.bits.specs.Choice.{if_then_else_}
+use Rattle.bits.specs.Words.{fieldAt}
+use Rattle.classifier.specs.Instructions.{opcode, rd, funct3, rs1, C·op, C·funct3, C·funct4, C·rs1}
 use Rattle.classifier.specs.Transfers.{link}
 use Rattle.classifier.specs.declared.Transfer.{Transfer}
 use Rattle.classifier.specs.declared.Transfer.the-variants.{None, Branch, IndirectCall, DirectCall, IndirectJump, DirectJump, CoroutineSwap, FunctionReturn, OtherIndirectJump, OtherDirectJump}
@@ -21,9 +24,10 @@ branchBy f =
 -- a jump by register, by rd and rs1
 unfoldable pub indirectBy : ℕ → ℕ → Transfer
 indirectBy d s =
-    if link d
-    then (if link s then (if eqb d s then IndirectCall else CoroutineSwap) else IndirectCall)
-    else (if link s then FunctionReturn else (if eqb d 0 then IndirectJump else OtherIndirectJump))
+    if eqb d 1 then (if eqb s 5 then CoroutineSwap else IndirectCall)
+    else (if eqb d 5 then (if eqb s 1 then CoroutineSwap else IndirectCall)
+    else (if link s then FunctionReturn
+    else (if eqb d 0 then IndirectJump else OtherIndirectJump)))
 
 -- a jump by offset, by rd
 unfoldable pub directBy : ℕ → Transfer
@@ -37,17 +41,27 @@ jalrBy f d s = if eqb f 0 then indirectBy d s else None
 unfoldable pub wideBy : ℕ → ℕ → ℕ → ℕ → Transfer
 wideBy op f d s =
     if eqb op 0x63 then branchBy f
-    else (if eqb op 0x67 then jalrBy f d s
-    else (if eqb op 0x6F then directBy d else None))
+    else (if eqb op 0x6F then directBy d
+    else (if eqb op 0x67 then jalrBy f d s else None))
+
+-- whether a 32-bit instruction may be a transfer at all: bits 6..4 of the three opcodes are 110
+abbrev pub mayTransfer : ℕ → Bool
+mayTransfer w = eqb (fieldAt w 4 3) 0b110
 
 -- quadrant 1, by funct3: C.J, which is JAL with rd x0, C.BEQZ and C.BNEZ
 unfoldable pub quadrant1By : ℕ → Transfer
 quadrant1By f = if eqb f 5 then directBy 0 else (if eqb f 6 then Branch else (if eqb f 7 then Branch else None))
 
--- C.JR, which is JALR with rd x0, and C.JALR, with rd x1: by funct4 and rs1
+-- C.JR, which is JALR with rd x0, and C.JALR, with rd x1: by funct4 and rs1. With rs1 x0 the codes are other instructions
 unfoldable pub registerJumpBy : ℕ → ℕ → Transfer
-registerJumpBy f s = if eqb f 8 then indirectBy 0 s else (if eqb f 9 then indirectBy 1 s else None)
+registerJumpBy f s =
+    if eqb s 0 then None
+    else (if eqb f 8 then indirectBy 0 s
+    else (if eqb f 9 then indirectBy 1 s else None))
 
--- quadrant 2, by funct4, rs1 and rs2
-unfoldable pub quadrant2By : ℕ → ℕ → ℕ → Transfer
-quadrant2By f s t = if eqb s 0 then None else (if eqb t 0 then registerJumpBy f s else None)
+-- a word. The opcode of C.JR and C.JALR, with rs2 x0, is 2
+unfoldable pub decisionOf : ℕ → Transfer
+decisionOf w =
+    if eqb (C·op w) 3 then (if mayTransfer w then wideBy (opcode w) (funct3 w) (rd w) (rs1 w) else None)
+    else (if eqb (C·op w) 1 then quadrant1By (C·funct3 w)
+    else (if eqb (opcode w) 2 then registerJumpBy (C·funct4 w) (C·rs1 w) else None))

@@ -4,3 +4,4 @@ pub mod Promise
 pub mod Vectors
 pub mod Exports
 pub mod Decision
+pub mod Tables

@@ -1,10 +1,14 @@
 // The classifier for programs in C and Rust: numbers and lent slices only (include/pyrathene.h).
 ghost use mathlib.Core.Path.{_≡_};
 ghost use Prim.Native.Nat.{min};
-ghost use mathlib.Core.Bool.{true};
 ghost use lib.ListN.{length};
 ghost use Rattle.classifier.specs.Transfers.{transferOf, typeOf};
 ghost use Rattle.classifier.specs.Exports.{classified};
+use crate::runs::LONG;
+use crate::runs::least;
+use crate::runs::sort_long;
+use crate::runs::sort_short;
+use crate::tables::filled_table;
 
 // The number of a word's type: 0 for none, and a branch is 5 if taken, else 4.
 #[no_mangle]
@@ -14,12 +18,6 @@ pub extern "C" fn ctr_classify(word: u32, taken: bool) -> u8
     crate::type_number(crate::classify(word), taken)
 }
 
-fn least(a: usize, b: usize) -> usize
-    ensures { λ r. ⌜ r ≡ min a b ⌝ }
-{
-    if a < b { a } else { b }
-}
-
 // Puts the number of each word's type, a branch as taken, into types, as many as both slices hold,
 // and answers how many. The rest of types stays as it was.
 #[no_mangle]
@@ -27,11 +25,10 @@ pub extern "C" fn ctr_classify_all(words: &[u32], types: &mut [u8]) -> usize
     ensures count { λ r. ⌜ r ≡ min (length (now (words .entry))) (length (now (types .entry))) ⌝ }
     ensures filled { λ r. ⌜ now (types .exit) ≡ classified (now (words .entry)) (now (types .entry)) ⌝ }
 {
-    let n = least(words.len(), types.len());
-    let mut i = 0;
-    while i < n {
-        types[i] = ctr_classify(words[i], true);
-        i += 1;
+    if least(words.len(), types.len()) < LONG {
+        sort_short(words, types)
+    } else {
+        let table = filled_table();
+        sort_long(&table, words, types)
     }
-    n
 }

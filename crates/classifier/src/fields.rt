@@ -57,10 +57,3 @@ pub fn c_rs1(word: u32) -> u32
 {
     rd(word)
 }
-
-// Bits 6..2 of a 16-bit instruction.
-pub fn c_rs2(word: u32) -> u32
-    ensures { λ r. ⌜ r ≡ Instructions.C·rs2 word ⌝ }
-{
-    bits::field32(word, 2, 5)
-}

@@ -1,11 +1,13 @@
 // The word classifier: which control transfer an instruction word is (docs/RULES.md, T1 to T13).
 pub mod exports;
 mod fields;
+mod runs;
+mod tables;
 
 ghost use mathlib.Core.Path.{_≡_};
 ghost use Rattle.classifier.specs.Transfers.{transferOf, typeOf};
 ghost use Rattle.classifier.specs.Transfers.{link as Transfers·link};
-ghost use Rattle.classifier.specs.Decision.{branchBy, jalrBy, indirectBy, directBy, wideBy, quadrant1By, quadrant2By, registerJumpBy};
+ghost use Rattle.classifier.specs.Decision.{branchBy, jalrBy, indirectBy, directBy, wideBy, mayTransfer, quadrant1By, registerJumpBy};
 
 pub enum Transfer {
     None,
@@ -57,13 +59,15 @@ fn jalr(funct3: u32, rd: u32, rs1: u32) -> Transfer
 fn indirect(rd: u32, rs1: u32) -> Transfer
     ensures { λ t. ⌜ t ≡ indirectBy rd rs1 ⌝ }
 {
-    if link(rd) {
-        if link(rs1) {
-            if rd == rs1 {
-                Transfer::IndirectCall
-            } else {
-                Transfer::CoroutineSwap
-            }
+    if rd == 1 {
+        if rs1 == 5 {
+            Transfer::CoroutineSwap
+        } else {
+            Transfer::IndirectCall
+        }
+    } else if rd == 5 {
+        if rs1 == 1 {
+            Transfer::CoroutineSwap
         } else {
             Transfer::IndirectCall
         }
@@ -93,12 +97,22 @@ fn direct(rd: u32) -> Transfer
 fn wide(opcode: u32, funct3: u32, rd: u32, rs1: u32) -> Transfer
     ensures { λ t. ⌜ t ≡ wideBy opcode funct3 rd rs1 ⌝ }
 {
-    match opcode {
-        0x63 => branch(funct3),
-        0x67 => jalr(funct3, rd, rs1),
-        0x6F => direct(rd),
-        _ => Transfer::None,
+    if opcode == 0x63 {
+        branch(funct3)
+    } else if opcode == 0x6F {
+        direct(rd)
+    } else if opcode == 0x67 {
+        jalr(funct3, rd, rs1)
+    } else {
+        Transfer::None
     }
+}
+
+// Whether a 32-bit instruction may be a transfer at all. Most may not.
+fn may_transfer(word: u32) -> bool
+    ensures { λ b. ⌜ b ≡ mayTransfer word ⌝ }
+{
+    bits::field32(word, 4, 3) == 0b110
 }
 
 // C.J, C.BEQZ and C.BNEZ.
@@ -113,49 +127,44 @@ fn quadrant1(funct3: u32) -> Transfer
     }
 }
 
-// C.JR, which is JALR with rd x0, and C.JALR, with rd x1.
+// C.JR, which is JALR with rd x0, and C.JALR, with rd x1. With rs1 x0 their codes are reserved and C.EBREAK.
 fn register_jump(funct4: u32, rs1: u32) -> Transfer
     ensures { λ t. ⌜ t ≡ registerJumpBy funct4 rs1 ⌝ }
 {
-    match funct4 {
-        8 => indirect(0, rs1),
-        9 => indirect(1, rs1),
-        _ => Transfer::None,
-    }
-}
-
-// With rs1 x0 the codes of C.JR and C.JALR are reserved and C.EBREAK, with rs2 not x0 C.MV and C.ADD.
-fn quadrant2(funct4: u32, rs1: u32, rs2: u32) -> Transfer
-    ensures { λ t. ⌜ t ≡ quadrant2By funct4 rs1 rs2 ⌝ }
-{
     if rs1 == 0 {
         Transfer::None
-    } else if rs2 == 0 {
-        register_jump(funct4, rs1)
+    } else if funct4 == 8 {
+        indirect(0, rs1)
+    } else if funct4 == 9 {
+        indirect(1, rs1)
     } else {
         Transfer::None
     }
 }
 
-// The transfer that a word is.
+// The transfer that a word is. C.JR and C.JALR have 2 in their seven low bits: with rs2 not x0 they would be C.MV
+// and C.ADD.
 pub fn classify(word: u32) -> Transfer
     ensures { λ t. ⌜ t ≡ transferOf word ⌝ }
 {
     let op = fields::c_op(word);
-    match op {
-        1 => quadrant1(fields::c_funct3(word)),
-        2 => quadrant2(
-            fields::c_funct4(word),
-            fields::c_rs1(word),
-            fields::c_rs2(word),
-        ),
-        3 => wide(
-            fields::opcode(word),
-            fields::funct3(word),
-            fields::rd(word),
-            fields::rs1(word),
-        ),
-        _ => Transfer::None,
+    if op == 3 {
+        if may_transfer(word) {
+            wide(
+                fields::opcode(word),
+                fields::funct3(word),
+                fields::rd(word),
+                fields::rs1(word),
+            )
+        } else {
+            Transfer::None
+        }
+    } else if op == 1 {
+        quadrant1(fields::c_funct3(word))
+    } else if fields::opcode(word) == 2 {
+        register_jump(fields::c_funct4(word), fields::c_rs1(word))
+    } else {
+        Transfer::None
     }
 }
 

@@ -1,13 +1,15 @@
 // Reads little-endian 32-bit words from standard input and prints a line for each: the word, the
 // number of its transfer type (a branch as taken) and the type's name.
-ghost use Prim.Native.Nat.{_+_, _*_, _<_};
+ghost use Prim.Native.Nat.{_+_, _*_, _≤_, _<_};
 ghost use lib.ListN.{length};
-use classifier::Transfer;
 use libc::STDIN_FILENO;
 use libc::STDOUT_FILENO;
 
 // No line is longer than 32 bytes, so a buffer of 65,536 has room for one more up to here.
 const LAST_START: usize = 65504;
+
+// The words of a block of 65,536 bytes.
+const WORDS: usize = 16384;
 
 // What was read: how many bytes, and whether a read failed.
 struct Block {
@@ -15,29 +17,27 @@ struct Block {
     failed: bool,
 }
 
-fn put_name(out: &mut [u8], at: usize, t: Transfer) -> usize {
-    match t {
-        Transfer::None => text::put(out, at, b"none"),
-        Transfer::Branch => text::put(out, at, b"branch"),
-        Transfer::IndirectCall => text::put(out, at, b"indirect call"),
-        Transfer::DirectCall => text::put(out, at, b"direct call"),
-        Transfer::IndirectJump => text::put(out, at, b"indirect jump"),
-        Transfer::DirectJump => text::put(out, at, b"direct jump"),
-        Transfer::CoroutineSwap => text::put(out, at, b"co-routine swap"),
-        Transfer::FunctionReturn => text::put(out, at, b"function return"),
-        Transfer::OtherIndirectJump => text::put(out, at, b"other indirect jump"),
-        Transfer::OtherDirectJump => text::put(out, at, b"other direct jump"),
+fn put_name(out: &mut [u8], at: usize, number: u8) -> usize {
+    match number {
+        5 => text::put(out, at, b"branch"),
+        8 => text::put(out, at, b"indirect call"),
+        9 => text::put(out, at, b"direct call"),
+        10 => text::put(out, at, b"indirect jump"),
+        11 => text::put(out, at, b"direct jump"),
+        12 => text::put(out, at, b"co-routine swap"),
+        13 => text::put(out, at, b"function return"),
+        14 => text::put(out, at, b"other indirect jump"),
+        15 => text::put(out, at, b"other direct jump"),
+        _ => text::put(out, at, b"none"),
     }
 }
 
-fn put_line(out: &mut [u8], at: usize, word: u32) -> usize {
-    let t = classifier::classify(word);
-    let number = classifier::type_number(t, true);
+fn put_line(out: &mut [u8], at: usize, word: u32, number: u8) -> usize {
     let mut next = text::put_hex(out, at, word as u64, 8);
     next = text::put_byte(out, next, b' ');
     next = text::put_decimal(out, next, number as u64);
     next = text::put_byte(out, next, b' ');
-    next = put_name(out, next, t);
+    next = put_name(out, next, number);
     text::put_byte(out, next, b'\n')
 }
 
@@ -55,13 +55,25 @@ fn word_at(input: &[u8], i: usize) -> u32
         | (widened(input[4 * i + 3]) << 24)
 }
 
-// Prints the lines of all whole words, and says whether they were written.
-fn print_words(input: &[u8], out: &mut [u8]) -> bool {
-    let words = input.len() / 4;
+// The whole words of the input, as many as there is room for. Answers how many.
+fn take_words(input: &[u8], words: &mut [u32]) -> usize
+    ensures { λ n. ⌜ n ≤ length (now (words .exit)) ⌝ }
+{
+    let whole = input.len() / 4;
+    let mut i = 0;
+    while i < words.len() && i < whole {
+        words[i] = word_at(input, i);
+        i += 1;
+    }
+    i
+}
+
+// Prints the lines of words with their types, and says whether they were written.
+fn print_lines(words: &[u32], types: &[u8], out: &mut [u8]) -> bool {
     let mut at = 0;
     let mut i = 0;
-    while i < words {
-        at = put_line(out, at, word_at(input, i));
+    while i < words.len() && i < types.len() {
+        at = put_line(out, at, words[i], types[i]);
         if at > LAST_START {
             if !io::write_all(STDOUT_FILENO, text::before(out, at)) {
                 return false;
@@ -71,6 +83,14 @@ fn print_words(input: &[u8], out: &mut [u8]) -> bool {
         i += 1;
     }
     io::write_all(STDOUT_FILENO, text::before(out, at))
+}
+
+// Prints the lines of all whole words, and says whether they were written.
+fn print_words(input: &[u8], words: &mut [u32], types: &mut [u8], out: &mut [u8]) -> bool {
+    let count = take_words(input, words);
+    let whole = &words[..count];
+    classifier::exports::ctr_classify_all(whole, types);
+    print_lines(whole, types, out)
 }
 
 // Reads until the buffer is full, the input ends or a read fails.
@@ -94,10 +114,10 @@ fn read_block(input: &mut [u8]) -> Block {
 }
 
 // Reads a block and prints its lines. Says whether there may be more to read.
-fn print_block(input: &mut [u8], out: &mut [u8]) -> bool {
+fn print_block(input: &mut [u8], words: &mut [u32], types: &mut [u8], out: &mut [u8]) -> bool {
     let block = read_block(input);
     let count = block.count;
-    if !print_words(text::before(input, count), out) {
+    if !print_words(text::before(input, count), words, types, out) {
         os::fail(b"classify: standard output");
         return false;
     }
@@ -115,9 +135,11 @@ fn print_block(input: &mut [u8], out: &mut [u8]) -> bool {
 // run uses up.
 fn main() {
     let mut input = io::large_buffer();
+    let mut words = [0; WORDS];
+    let mut types = [0; WORDS];
     let mut out = io::large_buffer();
     let mut blocks = u64::MAX;
-    while blocks > 0 && print_block(&mut input, &mut out) {
+    while blocks > 0 && print_block(&mut input, &mut words, &mut types, &mut out) {
         blocks -= 1;
     }
 }

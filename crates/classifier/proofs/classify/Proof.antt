@@ -1,31 +1,48 @@
--- `classifier::classify` meets its contract: each arm reads the fields that its law of Sorted speaks of. Assumes nothing.
-use mathlib.Core.Path.{_≡_, sym, _∙_}
+-- `classifier::classify` meets its contract: each arm is an arm of the decision. Assumes nothing.
+use mathlib.Core.Path.{_≡_, refl, sym, _∙_}
+use mathlib.Core.Bool.{Bool, true, false}
 use Prim.Native.Nat.{ℕ}
-use native.Mathlib.Omega.{arith}
+use lib.Dec.{eqb}
 use borrow.Author.Tests.{ne-eqb}
-use Rattle.classifier.specs.Instructions.{opcode, rd, funct3, rs1, C·op, C·funct3, C·funct4, C·rs1, C·rs2}
+use Rattle.classifier.specs.Instructions.{opcode, rd, funct3, rs1, C·op, C·funct3, C·funct4, C·rs1}
 use Rattle.classifier.specs.Transfers.{transferOf}
-use Rattle.classifier.specs.Decision.{quadrant1By, quadrant2By, wideBy}
+use Rattle.classifier.specs.Decision.{wideBy, mayTransfer, quadrant1By, registerJumpBy, decisionOf}
 use Rattle.classifier.specs.declared.Transfer.{Transfer}
 use Rattle.classifier.specs.declared.Transfer.the-variants.{None}
-use Rattle.classifier.proofs.Sorted.{in-quadrant0, in-quadrant1, in-quadrant2, in-wide, transfer}
+use Rattle.classifier.proofs.Sorted.{decided}
 use Rattle.classifier.proofs.classify.Statement.{statement}
 use Rattle.classifier.proofs.classify.Tie as tie
 
-arm1 : (w op f : ℕ) (t : Transfer) → op ≡ C·op w → op ≡ 1 → f ≡ C·funct3 w → t ≡ quadrant1By f → t ≡ transferOf w
-arm1 w op f t e o p q = transfer w t (rw (q, p) (in-quadrant1 w (λ n. omega arith) (sym e ∙ o)))
+-- what the code has read of the word
+module _ (w op : ℕ) (is-op : op ≡ C·op w) where
+  wide-arm : (t : Transfer) (b : Bool) (o f d s : ℕ) → op ≡ 3 → b ≡ mayTransfer w → b ≡ true → o ≡ opcode w → f ≡ funct3 w → d ≡ rd w → s ≡ rs1 w
+      → t ≡ wideBy o f d s → t ≡ transferOf w
+  unfolding decisionOf
+  wide-arm t b o f d s a e m i p q r h = h ∙ rw (i, p, q, r) (simp (sym is-op ∙ a, sym e ∙ m) refl) ∙ decided w
 
-arm2 : (w op f s r : ℕ) (t : Transfer) → op ≡ C·op w → op ≡ 2 → f ≡ C·funct4 w → s ≡ C·rs1 w → r ≡ C·rs2 w
-    → t ≡ quadrant2By f s r → t ≡ transferOf w
-arm2 w op f s r t e o p q u v = transfer w t (rw (v, p, q, u) (in-quadrant2 w (λ n. omega arith) (sym e ∙ o)))
+  other-wide-arm : (b : Bool) → op ≡ 3 → b ≡ mayTransfer w → b ≡ false → None ≡ transferOf w
+  unfolding decisionOf
+  other-wide-arm b a e m = simp (sym is-op ∙ a, sym e ∙ m) refl ∙ decided w
 
-arm3 : (w op k f d s : ℕ) (t : Transfer) → op ≡ C·op w → op ≡ 3 → k ≡ opcode w → f ≡ funct3 w → d ≡ rd w → s ≡ rs1 w
-    → t ≡ wideBy k f d s → t ≡ transferOf w
-arm3 w op k f d s t e o p q u v x = transfer w t (rw (x, p, q, u, v) (in-wide w (sym e ∙ o)))
+  module _ (not-3 : op ≡ 3 → ⊥) where
+    no-3 : eqb (C·op w) 3 ≡ false
+    no-3 = ne-eqb _ 3 (λ n. not-3 (is-op ∙ n))
 
-other-arm : (w op : ℕ) → op ≡ C·op w → (op ≡ 1 → ⊥) → (op ≡ 2 → ⊥) → (op ≡ 3 → ⊥) → None ≡ transferOf w
-other-arm w op e a b d =
-    transfer w None (in-quadrant0 w (λ n. d (e ∙ n)) (ne-eqb _ _ (λ n. a (e ∙ n))) (ne-eqb _ _ (λ n. b (e ∙ n))))
+    quadrant1-arm : (t : Transfer) (f : ℕ) → op ≡ 1 → f ≡ C·funct3 w → t ≡ quadrant1By f → t ≡ transferOf w
+    unfolding decisionOf
+    quadrant1-arm t f a p h = h ∙ rw p (simp (sym is-op ∙ a) refl) ∙ decided w
+
+    module _ (not-1 : op ≡ 1 → ⊥) where
+      no-1 : eqb (C·op w) 1 ≡ false
+      no-1 = ne-eqb _ 1 (λ n. not-1 (is-op ∙ n))
+
+      register-jump-arm : (t : Transfer) (o f s : ℕ) → o ≡ opcode w → o ≡ 2 → f ≡ C·funct4 w → s ≡ C·rs1 w → t ≡ registerJumpBy f s → t ≡ transferOf w
+      unfolding decisionOf
+      register-jump-arm t o f s i a p q h = h ∙ rw (p, q) (simp (no-3, no-1, sym i ∙ a) refl) ∙ decided w
+
+      other-arm : (o : ℕ) → o ≡ opcode w → (o ≡ 2 → ⊥) → None ≡ transferOf w
+      unfolding decisionOf
+      other-arm o i n = simp (no-3, no-1, ne-eqb _ 2 (λ e. n (i ∙ e))) refl ∙ decided w
 
 pub classify-spec : {M : Type 1} → statement M
 classify-spec =
@@ -43,7 +60,9 @@ classify-spec =
     (λ c κs. tt)
     (λ c κs. tt)
     (λ c κs. tt)
-    (λ c. search arm1)
-    (λ c. search arm2)
-    (λ c. search arm3)
+    (λ c κs. tt)
+    (λ c. search wide-arm)
+    (λ c. search other-wide-arm)
+    (λ c. search quadrant1-arm)
+    (λ c. search register-jump-arm)
     (λ c. search other-arm))

@@ -10,8 +10,7 @@ indirect-spec =
     tie.close
     (tie.spec
     (λ c κs. tt)
-    (λ c κs. tt)
-    (λ c κs. tt)
+    (λ c. search picks depth 9)
     (λ c. search picks depth 9)
     (λ c. search picks depth 9)
     (λ c. search picks depth 9)

@@ -13,4 +13,5 @@ register-jump-spec =
     (λ c κs. tt)
     (λ c. search picks depth 9)
     (λ c. search picks depth 9)
+    (λ c. search picks depth 9)
     (λ c. search picks depth 9))

@@ -6,10 +6,11 @@ use Rattle.classify.proofs.main.Statement.{statement}
 use Rattle.classify.proofs.main.Tie as tie
 
 abbrev Inv-loop : tie.InvT-loop
-Inv-loop input₀ out₀ blocks₀ input out blocks = (length input ≡ 65536) × (length out ≡ 65536)
+Inv-loop input₀ words₀ types₀ out₀ blocks₀ input words types out blocks =
+    (length input ≡ 65536) × (length words ≡ 16384) × (length types ≡ 16384) × (length out ≡ 65536)
 
 abbrev μ-loop : tie.MeasureT-loop
-μ-loop input₀ out₀ blocks₀ input out blocks = blocks
+μ-loop input₀ words₀ types₀ out₀ blocks₀ input words types out blocks = blocks
 
 pub main-spec : {M : Type 1} → statement M
 main-spec =
@@ -19,6 +20,8 @@ main-spec =
     μ-loop
     (λ c κs. tt)
     (λ c κs. tt)
+    (λ c. search needs)
+    (λ c. search needs)
     (λ c. search needs)
     (λ c. search needs)
     (λ c. search needs)
