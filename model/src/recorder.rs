@@ -24,8 +24,9 @@ const POPPED: u64 = 2;
 const SWAPPED: u64 = 3;
 const FROZEN_BY_TRAP: u64 = 4;
 
-/// Bit 0 of ctrsource is V; bit 0 of a pc is ignored.
+// Bit 0 of ctrsource is V and that of ctrtarget MISP; bit 0 of a pc is ignored.
 const V: u64 = 1;
+const MISP: u64 = 1;
 
 /// The PC that is shown in place of one of a mode that is off.
 const NO_PC: u64 = 0;
@@ -45,6 +46,8 @@ pub struct Retired {
     pub pc: u64,
     pub target: u64,
     pub taken: bool,
+    /// Whether its target, or that it is taken or not, was mispredicted.
+    pub mispredicted: bool,
     pub cycles: u32,
 }
 
@@ -128,7 +131,10 @@ impl Machine {
         if number == NONE || self.registers.frozen || !self.registers.is_on(mode) {
             return NOTHING;
         }
-        let record = record(retired.pc, retired.target, number);
+        let mut record = record(retired.pc, retired.target, number);
+        if retired.mispredicted {
+            record.ctrtarget |= MISP;
+        }
         let control = self.registers.governing_control(mode, mode);
         if is_emulating(control) {
             self.emulate(record, number)
@@ -283,11 +289,11 @@ impl Machine {
     }
 }
 
-/// A valid entry. ctrdata is the type alone, without a count.
+/// A valid entry. MISP is 0, and ctrdata is the type alone, without a count.
 fn record(pc: u64, target: u64, number: u8) -> Entry {
     Entry {
         ctrsource: pc | V,
-        ctrtarget: target & !1,
+        ctrtarget: target & !MISP,
         ctrdata: number.into(),
     }
 }

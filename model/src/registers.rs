@@ -27,9 +27,6 @@ const STATUS_WRPTR: u64 = 0xFF;
 /// The position of FROZEN in sctrstatus.
 const STATUS_FROZEN: u32 = 31;
 
-/// The bits of ctrtarget that are addresses; MISP is not there.
-const CTRTARGET_MASK: u64 = !1;
-
 /// The fields of ctrdata: CC in bits 31 to 16, CCV in bit 15 and TYPE in bits 3 to 0. Custom is not
 /// there.
 const CTRDATA_MASK: u64 = 0xFFFF_800F;
@@ -307,11 +304,11 @@ impl Entry {
         [self.ctrsource, self.ctrtarget, self.ctrdata]
     }
 
-    /// What sireg `k` reads of the entry.
+    /// What sireg `k` reads of the entry. ctrtarget is read and written whole: bit 0 is MISP.
     fn reading(&self, k: u8) -> u64 {
         match k {
             1 => self.ctrsource,
-            2 => self.ctrtarget & CTRTARGET_MASK,
+            2 => self.ctrtarget,
             3 => self.ctrdata & CTRDATA_MASK,
             _ => 0,
         }
@@ -321,7 +318,7 @@ impl Entry {
     fn write(&mut self, k: u8, value: u64) {
         match k {
             1 => self.ctrsource = value,
-            2 => self.ctrtarget = value & CTRTARGET_MASK,
+            2 => self.ctrtarget = value,
             3 => self.ctrdata = value & CTRDATA_MASK,
             _ => {}
         }

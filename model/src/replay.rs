@@ -109,6 +109,7 @@ mod tests {
     const SCTRCLR: Row = [4, 0, 0, 0];
     const TURN_M_ON: Row = [0x103, 0x34E, 4, 0];
     const CALL: Row = [0, 0xef, 0x1000, 0x2000];
+    const MISPREDICTED_CALL: Row = [0x200, 0xef, 0x1000, 0x2000];
     const MALFORMED: Row = [3, 4096, 0, 0];
 
     const EISDIR: i32 = 21;
@@ -127,6 +128,7 @@ mod tests {
         let bytes = match name {
             "call" => call,
             "empty" => vec![],
+            "mispredicted" => bytes_of([TURN_M_ON, MISPREDICTED_CALL, CALL]),
             "damaged" => [call, bytes_of([MALFORMED, CALL]), vec![0; 5]].concat(),
             "malformed" => bytes_of([MALFORMED]),
             "cut" => [call, vec![0; 31]].concat(),
@@ -194,6 +196,21 @@ ccv 0x1
         let report = report_of(&[TURN_M_ON, CALL]);
         assert!(stdout.starts_with(&format!("{report}0 0x1001 0x2000 0x9\n1 0x0 0x0 0x0\n")));
         assert!(stdout.ends_with("\n255 0x0 0x0 0x0\n"));
+    }
+
+    /// In the lines of all entries MISP is a bit of ctrtarget.
+    #[test]
+    fn misp_is_told_of_valid_entries_and_stays_in_the_words_of_all() {
+        let printed = printed("--state mispredicted");
+        let expected = "\
+0 0x1000 -> 0x2000 direct call cycles 0
+1 0x1000 -> 0x2000 direct call mispredicted
+0 0x1001 0x2001 0x9
+1 0x1001 0x2000 0x8009
+2 0x0 0x0 0x0
+";
+        assert!(printed.stdout.contains(expected), "{}", printed.stdout);
+        assert_eq!(printed.stderr, "");
     }
 
     #[test]

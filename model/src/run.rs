@@ -59,19 +59,19 @@ mod tests {
     use crate::replay::{encode, Row};
 
     /// Rows from reset, beside their answers: of every kind, some of them refused, some with
-    /// cycles.
+    /// cycles, both words mispredicted.
     const SAMPLES: [(Row, [u64; 2]); 11] = [
         // M turns M, S and U on, reads that back with an operand that says nothing, and calls.
         ([0x103, 0x34E, 7, 0], [0, 0]),
         ([0x003, 0x34E, u64::MAX, 0], [0, 7]),
-        ([0x1234_0000_0000, 0xef, 0x1000, 0x2000], [0, 1]),
+        ([0x1234_0000_0200, 0xef, 0x1000, 0x2000], [0, 1]),
         // No such register; SCTRCLR; the host sets mstateen0.CTR.
         ([0x203, 0x999, 1, 0], [3, 0]),
         ([0x004, 0, 0, 0], [0, 0]),
         ([0x105, 0, 0, 0], [0, 0]),
         // To VU, which is off, where nothing is recorded and little is allowed.
         ([0xFFFF_FFFF_0000_0302, 0, 0x3000, 0x4000], [0, 1]),
-        ([0x5_0000_0100, 0x63, 0x5000, 0x6000], [0, 0]),
+        ([0x5_0000_0300, 0x63, 0x5000, 0x6000], [0, 0]),
         ([0x004, 0, 0, 0], [2, 0]),
         ([0x6_0000_0302, 0, 0x7000, 0x8000], [4, 0]),
         // An interrupt with a large cause, back to M.

@@ -23,12 +23,12 @@ const MALFORMED: [(&str, Row); 37] = [
     ("kind-6", [6, 0, 0, 0]),
     ("kind-255", [255, 0, 0, 0]),
     ("kind-bits-above", [0x103_0000_0006, 0, 0, 0]),
-    ("retired-bit-9", [0x200, 0xef, 0, 0]),
+    ("retired-bit-10", [0x400, 0xef, 0, 0]),
     ("retired-bit-31", [1 << 31, 0xef, 0, 0]),
-    ("retired-below-cycles", [0x7_0000_0200, 0xef, 0, 0]),
+    ("retired-below-cycles", [0x7_0000_0400, 0xef, 0, 0]),
     ("retired-instruction", [0, 1 << 32, 0, 0]),
     ("retired-instruction-high", [0x100, 1 << 63 | 0xef, 0, 0]),
-    ("retired-both", [0x200, 1 << 32, 0, 0]),
+    ("retired-both", [0x400, 1 << 32, 0, 0]),
     ("trap-mode-5", [0x501, 0, 0, 0]),
     ("trap-mode-6", [0xE01, 0, 0, 0]),
     ("trap-mode-7", [0x701, 0, 0, 0]),
@@ -133,6 +133,7 @@ fn traces() -> Vec<(String, Vec<u8>)> {
         traces.push((format!("random-{seed}"), random_rows(seed, MANY_ROWS)));
     }
     traces.push(("cycles".to_string(), bytes_of(rows_with_cycles())));
+    traces.push(("flags".to_string(), bytes_of(rows_with_flags())));
     for (name, row) in MALFORMED {
         traces.push((name.to_string(), damaged(few, row)));
     }
@@ -158,6 +159,16 @@ fn rows_with_cycles() -> impl Iterator<Item = Row> {
     [[0x103, 0x15F, 7, 0], [0x103, 0x34E, 4, 0]]
         .into_iter()
         .chain(calls)
+}
+
+/// Calls in M, mispredicted and not, to even and odd targets, without a count and with one.
+fn rows_with_flags() -> impl Iterator<Item = Row> {
+    let [_, word, pc, target] = CALL;
+    let settings = [(0, 0), (0, 1), (0x200, 0), (0x200, 1)];
+    let calls = settings.map(|(flags, bit)| [flags, word, pc, target | bit]);
+    calls
+        .into_iter()
+        .flat_map(|call| [[0x103, 0x34E, 4, 0], call, call])
 }
 
 /// A sample trace behind the setup that `replay` is tested with.

@@ -1,71 +1,31 @@
 //! The cycle counter: whose cycles go into it, what records say of it, and what restarts it.
 
-use model::access::{Access, Answer, Operation};
+mod support;
+
+use model::access::Operation;
 use model::cycles::decoded;
 use model::recorder::{Event, Machine, Retired, Trap, TrapReturn};
 use model::registers::csr::*;
-use model::registers::{Entry, Mode};
+use model::registers::Mode;
 
+use support::{
+    access, entry, outcome, switch_on, with_bits, ALL_INHIBITS, BPFRZ, BRANCH, DIRECT_CALL,
+    INDIRECT_CALL, LCOFIFRZ, MTE, NOP, OTHER_WORDS, POSSIBLE_RETURNS, POSSIBLE_TRAPS, RASEMU,
+    RETURN, STE, SWAP,
+};
 use Mode::*;
-
-const RASEMU: u64 = 1 << 7;
-const STE: u64 = 1 << 8;
-const MTE: u64 = 1 << 9;
-const BPFRZ: u64 = 1 << 11;
-const LCOFIFRZ: u64 = 1 << 12;
-
-/// EXCINH to TRETINH, TKBRINH, INDCALLINH to DIRLJMPINH.
-const ALL_INHIBITS: u64 = 0xFF2E << 32;
-
-/// ADDI x0,x0,0; BEQ x0,x0; JAL x1; JALR x0,x1; JALR x1,x5.
-const NOP: u32 = 0x0000_0013;
-const BRANCH: u32 = 0x0000_0063;
-const CALL: u32 = 0x0000_00EF;
-const RETURN: u32 = 0x0000_8067;
-const SWAP: u32 = 0x0002_80E7;
 
 /// A word of each type, branches as taken: word and type.
 const TRANSFERS: [(u32, u64); 9] = [
     (BRANCH, 5),
-    (0x0000_80E7, 8),
-    (CALL, 9),
+    (INDIRECT_CALL, 8),
+    (DIRECT_CALL, 9),
     (0x0003_0067, 10),
     (0x0000_006F, 11),
     (SWAP, 12),
     (RETURN, 13),
     (0x0003_8367, 14),
     (0x0000_036F, 15),
-];
-
-/// Words of no type: NOP, C.EBREAK, SRET, MRET and SCTRCLR.
-const OTHER_WORDS: [u32; 5] = [NOP, 0x0000_9002, 0x1020_0073, 0x3020_0073, 0x1040_0073];
-
-const POSSIBLE_TRAPS: [(Mode, Mode); 11] = [
-    (U, S),
-    (U, M),
-    (VU, VS),
-    (VU, S),
-    (VU, M),
-    (VS, VS),
-    (VS, S),
-    (VS, M),
-    (S, S),
-    (S, M),
-    (M, M),
-];
-
-const POSSIBLE_RETURNS: [(Mode, Mode); 11] = [
-    (M, U),
-    (M, S),
-    (M, M),
-    (M, VU),
-    (M, VS),
-    (S, S),
-    (S, U),
-    (S, VS),
-    (S, VU),
-    (VS, VS),
-    (VS, VU),
 ];
 
 /// The largest count.
@@ -82,6 +42,7 @@ fn retired(word: u32, cycles: u32) -> Event {
         pc: 0x1000,
         target: 0x2000,
         taken: true,
+        mispredicted: false,
         cycles,
     })
 }
@@ -92,6 +53,7 @@ fn not_taken_branch() -> Event {
         pc: 0x1000,
         target: 0x2000,
         taken: false,
+        mispredicted: false,
         cycles: CYCLES,
     })
 }
@@ -124,14 +86,6 @@ fn traps(target: Mode) -> [Event; 2] {
 /// A breakpoint exception and a counter overflow interrupt.
 fn freezing_traps(target: Mode) -> [Event; 2] {
     [trap(target, false, 3), trap(target, true, 13)]
-}
-
-fn access(operation: Operation, csr: u64, operand: u64) -> Event {
-    Event::Access(Access {
-        operation,
-        csr,
-        operand,
-    })
 }
 
 fn write(csr: u64, operand: u64) -> Event {
@@ -193,29 +147,10 @@ fn machine(mode: Mode, on: &[Mode]) -> Machine {
     registers.hstateen0_ctr = true;
     registers.cycles = BEFORE;
     registers.ccv = true;
-    for mode in on {
-        match mode {
-            U => registers.mctrctl |= 1,
-            S => registers.mctrctl |= 2,
-            M => registers.mctrctl |= 4,
-            VU => registers.vsctrctl |= 1,
-            VS => registers.vsctrctl |= 2,
-        }
+    switch_on(registers, on);
+    for (i, place) in (0..).zip(&mut machine.entries) {
+        *place = entry(0x10_0001 + 16 * i, 0x20_0000 + 16 * i, 0xA5A5_8000 + i % 16);
     }
-    for (i, entry) in (0..).zip(&mut machine.entries) {
-        *entry = Entry {
-            ctrsource: 0x10_0001 + 16 * i,
-            ctrtarget: 0x20_0000 + 16 * i,
-            ctrdata: 0xA5A5_8000 + i % 16,
-        };
-    }
-    machine
-}
-
-/// The machine with the bits set in both control registers.
-fn with_bits(mut machine: Machine, bits: u64) -> Machine {
-    machine.registers.mctrctl |= bits;
-    machine.registers.vsctrctl |= bits & !MTE;
     machine
 }
 
@@ -223,14 +158,6 @@ fn with_bits(mut machine: Machine, bits: u64) -> Machine {
 fn with_ccv(mut machine: Machine, ccv: bool) -> Machine {
     machine.registers.ccv = ccv;
     machine
-}
-
-/// The value of an answer with number 0, and the machine after it.
-fn outcome(start: &Machine, event: Event) -> (u64, Machine) {
-    let mut after = start.clone();
-    let Answer { number, value } = after.step(event);
-    assert_eq!(number, 0, "{event:x?} in {:x?}", start.registers);
-    (value, after)
 }
 
 /// The counter and the CCV of the next record.
@@ -275,10 +202,10 @@ fn after_reset_the_first_record_has_ccv_0_and_the_next_1() {
     let events = [
         (NOP, 10),
         (NOP, 20),
-        (CALL, 7),
+        (DIRECT_CALL, 7),
         (NOP, 30),
-        (CALL, 5),
-        (CALL, 0),
+        (DIRECT_CALL, 5),
+        (DIRECT_CALL, 0),
     ];
     for (word, cycles) in events {
         machine = outcome(&machine, retired(word, cycles)).1;
@@ -441,14 +368,14 @@ fn the_count_goes_on_after_freezing() {
     for event in [
         trap(M, false, 3),
         retired(NOP, 1000),
-        retired(CALL, 1000),
+        retired(DIRECT_CALL, 1000),
         write(SCTRSTATUS, 4),
         retired(NOP, 6),
     ] {
         machine = outcome(&machine, event).1;
     }
     assert_eq!(count(&machine), (SUM + 6, true));
-    assert_records(&machine, retired(CALL, 3), SUM + 9, 9);
+    assert_records(&machine, retired(DIRECT_CALL, 3), SUM + 9, 9);
 }
 
 #[test]
@@ -491,7 +418,7 @@ fn a_record_at_the_top_has_all_bits_of_cc() {
     let mut start = machine(M, &[M]);
     start.registers.cycles = 3;
     let (_, start) = outcome(&start, retired(NOP, u32::MAX));
-    let (value, after) = outcome(&start, retired(CALL, 1));
+    let (value, after) = outcome(&start, retired(DIRECT_CALL, 1));
     assert_eq!((value, after.entries[4].ctrdata), (1, 0xFFFF_8009));
     assert_eq!(count(&after), (0, true));
 }
@@ -632,8 +559,8 @@ fn the_record_after_a_restart_has_ccv_0_and_the_next_1() {
             retired(NOP, 9),
             event,
             retired(NOP, 5),
-            retired(CALL, 6),
-            retired(CALL, 7),
+            retired(DIRECT_CALL, 6),
+            retired(DIRECT_CALL, 7),
         ] {
             machine = outcome(&machine, event).1;
         }
@@ -732,9 +659,11 @@ fn records_and_swaps_under_rasemu_have_the_type_alone() {
             let mut start = with_ccv(machine(mode, &[mode]), ccv);
             start.registers.cycles = before;
             let start = with_bits(start, RASEMU);
-            for (word, number, expected_value, place) in
-                [(0x0000_80E7, 8, 1, 4), (CALL, 9, 1, 4), (SWAP, 12, 3, 3)]
-            {
+            for (word, number, expected_value, place) in [
+                (0x0000_80E7, 8, 1, 4),
+                (DIRECT_CALL, 9, 1, 4),
+                (SWAP, 12, 3, 3),
+            ] {
                 let (value, after) = outcome(&start, retired(word, CYCLES));
                 assert_eq!(value, expected_value);
                 assert_eq!(after.entries[place].ctrdata, number);
@@ -764,15 +693,15 @@ fn after_rasemu_the_next_ordinary_record_has_ccv_0() {
     machine.registers.vsctrctl |= RASEMU;
     let events = [
         // event, value, count after it
-        (retired(CALL, 10), 1, (0, true)),
+        (retired(DIRECT_CALL, 10), 1, (0, true)),
         (retired(NOP, 11), 0, (11, true)),
         (trap_return(VS), 0, (0, false)),
         (retired(NOP, 12), 0, (0, false)),
-        (retired(CALL, 13), 1, (0, false)),
+        (retired(DIRECT_CALL, 13), 1, (0, false)),
         (trap(S, false, 8), 0, (0, false)),
         (retired(NOP, 14), 0, (14, false)),
-        (retired(CALL, 15), 1, (0, true)),
-        (retired(CALL, 16), 1, (0, true)),
+        (retired(DIRECT_CALL, 15), 1, (0, true)),
+        (retired(DIRECT_CALL, 16), 1, (0, true)),
     ];
     for (event, expected, counted) in events {
         let (value, after) = outcome(&machine, event);
@@ -800,7 +729,7 @@ fn counts_are_read_through_sireg3() {
                 let mut start = with_ccv(machine(M, &[M]), ccv);
                 start.registers.cycles = 0;
                 start.registers.siselect = 0x200;
-                let (_, after) = outcome(&start, retired(CALL, counter as u32));
+                let (_, after) = outcome(&start, retired(DIRECT_CALL, counter as u32));
                 let (read, _) = outcome(&after, access(Operation::Read, SIREG3, 0));
                 assert_eq!(read & 0xFFFF, u64::from(ccv) << 15 | 9);
                 assert_eq!(read >> 28, cce);

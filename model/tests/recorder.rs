@@ -1,33 +1,23 @@
 //! What events make of the whole recorder: published cases, slips that are easily made, and the
-//! rules one by one (docs/RULES.md). No cycles are spent here.
+//! rules one by one (docs/RULES.md). No cycles are spent here, and nothing is mispredicted.
+
+mod support;
 
 use std::iter;
 
-use model::access::{Access, Answer, Operation};
+use model::access::{Access, Operation};
 use model::recorder::{Event, Machine, Retired, Trap, TrapReturn};
 use model::registers::{Entry, Mode, Registers};
 
+use support::{
+    entry, outcome, ALL_INHIBITS, BPFRZ, BRANCH, DIRECT_CALL, INDIRECT_CALL, LCOFIFRZ, MTE, NTBREN,
+    RASEMU, RETURN, STE, SWAP,
+};
 use Mode::*;
 
-const RASEMU: u64 = 1 << 7;
-const STE: u64 = 1 << 8;
-const MTE: u64 = 1 << 9;
-const BPFRZ: u64 = 1 << 11;
-const LCOFIFRZ: u64 = 1 << 12;
 const EXCINH: u64 = 1 << 33;
 const INTRINH: u64 = 1 << 34;
 const TRETINH: u64 = 1 << 35;
-const NTBREN: u64 = 1 << 36;
-
-/// EXCINH to TRETINH, TKBRINH, INDCALLINH to DIRLJMPINH.
-const ALL_INHIBITS: u64 = 0xFF2E << 32;
-
-/// BEQ x0,x0; JAL x1; JALR x1,x1; JALR x0,x1; JALR x1,x5.
-const BRANCH: u32 = 0x0000_0063;
-const DIRECT_CALL: u32 = 0x0000_00EF;
-const INDIRECT_CALL: u32 = 0x0000_80E7;
-const RETURN: u32 = 0x0000_8067;
-const SWAP: u32 = 0x0002_80E7;
 
 /// A word of each type, the branch as taken: word, type, and the bit that inhibits it.
 const TRANSFERS: [(u32, u64, u64); 9] = [
@@ -56,6 +46,7 @@ fn retired(word: u32, taken: bool) -> Event {
         pc: PC,
         target: TARGET,
         taken,
+        mispredicted: false,
         cycles: 0,
     })
 }
@@ -160,22 +151,6 @@ fn machine(mode: Mode, on: &[Mode]) -> Machine {
         };
     }
     machine
-}
-
-fn entry(ctrsource: u64, ctrtarget: u64, ctrdata: u64) -> Entry {
-    Entry {
-        ctrsource,
-        ctrtarget,
-        ctrdata,
-    }
-}
-
-/// The value of an answer with number 0, and the state afterwards.
-fn outcome(start: &Machine, event: Event) -> (u64, Machine) {
-    let mut after = start.clone();
-    let Answer { number, value } = after.step(event);
-    assert_eq!(number, 0, "{event:x?} in {:x?}", start.registers);
-    (value, after)
 }
 
 /// The state after an ordinary record in `start`, with the mode that it leads to. The next one has
@@ -973,6 +948,7 @@ fn at_depth_256_the_newest_256_records_are_read() {
             pc: 0x1000 + 4 * call,
             target: 0x8000 + 4 * call,
             taken: true,
+            mispredicted: false,
             cycles: 0,
         });
         let (value, after) = outcome(&machine, event);

@@ -109,6 +109,7 @@ impl Random {
             pc: self.word(),
             target: self.word(),
             taken: self.bit(),
+            mispredicted: self.bit(),
             cycles: self.cycles(),
         })
     }
@@ -263,7 +264,12 @@ fn cycle_fields(counter: u64, ccv: bool) -> u64 {
     u64::from(cce) << 28 | ccm << 16 | u64::from(ccv) << 15
 }
 
-/// A record sets V, clears bit 0 of ctrtarget and holds a type, beside the count if RASEMU doesn't
+/// The flag of a retired word; traps and returns have none.
+fn is_mispredicted(event: Event) -> bool {
+    matches!(event, Event::Retired(retired) if retired.mispredicted)
+}
+
+/// A record sets V, gives MISP the event's flag and holds a type, beside the count if RASEMU doesn't
 /// govern it; a pop clears V; a swap leaves WRPTR. All other entries and registers stay, but for
 /// the mode, the cycle counter and the next CCV.
 #[test]
@@ -287,6 +293,7 @@ fn values_tell_what_has_changed() {
         } else {
             cycle_fields(counter, before.registers.ccv)
         };
+        let misp = is_mispredicted(event);
         let mut expected = before.clone();
         expected.registers.mode = mode_after(before.registers.mode, event);
         expected.registers.cycles = counter;
@@ -299,7 +306,7 @@ fn values_tell_what_has_changed() {
             1 => {
                 expected.registers.wrptr = (wrptr + 1) % depth;
                 expected.entries[wrptr as usize] = after.entries[wrptr as usize];
-                assert!(is_record(&after.entries[wrptr as usize], fields));
+                assert!(is_record(&after.entries[wrptr as usize], misp, fields));
             }
             2 => {
                 expected.registers.wrptr = below;
@@ -307,7 +314,7 @@ fn values_tell_what_has_changed() {
             }
             3 => {
                 expected.entries[below as usize] = after.entries[below as usize];
-                assert!(is_record(&after.entries[below as usize], fields));
+                assert!(is_record(&after.entries[below as usize], misp, fields));
             }
             4 => expected.registers.frozen = true,
             _ => {}
@@ -319,9 +326,9 @@ fn values_tell_what_has_changed() {
 }
 
 /// `fields` are those of ctrdata beside TYPE.
-fn is_record(entry: &Entry, fields: u64) -> bool {
+fn is_record(entry: &Entry, misp: bool, fields: u64) -> bool {
     entry.ctrsource & 1 == 1
-        && entry.ctrtarget & 1 == 0
+        && entry.ctrtarget & 1 == u64::from(misp)
         && entry.ctrdata & !0xF == fields
         && matches!(entry.ctrdata & 0xF, 1..=5 | 8..=15)
 }
@@ -490,4 +497,37 @@ fn bit_0_of_addresses_is_ignored() {
             assert_eq!(one, two);
         }
     }
+}
+
+/// The same word mispredicted or not: the answers are equal, and so are the states, but for MISP of
+/// what was recorded or swapped. Also in bad states.
+#[test]
+fn a_flag_changes_misp_of_its_own_record_and_nothing_else() {
+    let mut random = Random(SEED);
+    let mut counts = [0; 4];
+    for _ in 0..ROUNDS {
+        let (before, mut event) = (random.machine(), random.retired_word());
+        let mut outcome = |flag| {
+            if let Event::Retired(retired) = &mut event {
+                retired.mispredicted = flag;
+            }
+            let mut after = before.clone();
+            (after.step(event), after)
+        };
+        let ((answer, mut without), (other, with)) = (outcome(false), outcome(true));
+        assert_eq!(answer, other);
+        let place = match answer.value {
+            1 => Some(before.registers.wrptr),
+            3 => Some(before.registers.physical_entry(0)),
+            _ => None,
+        };
+        if let Some(place) = place {
+            let ctrtarget = &mut without.entries[place as usize].ctrtarget;
+            assert_eq!(*ctrtarget & 1, 0);
+            *ctrtarget |= 1;
+        }
+        assert_eq!(without, with);
+        counts[answer.value as usize] += 1;
+    }
+    assert!(counts.iter().all(|count| *count > 1_000), "{counts:?}");
 }

@@ -308,7 +308,7 @@ const fn entry(ctrsource: u64, ctrtarget: u64, ctrdata: u64) -> Entry {
 const FULL: Entry = entry(u64::MAX, u64::MAX, u64::MAX);
 
 /// All bits are set but undefined ones.
-const DEFINED: Entry = entry(u64::MAX, !1, 0xFFFF_800F);
+const DEFINED: Entry = entry(u64::MAX, u64::MAX, 0xFFFF_800F);
 
 /// Logical entry 0 is selected, whatever the mode and the ireg.
 fn selecting(mode: Mode) -> Registers {
@@ -322,7 +322,7 @@ fn selecting(mode: Mode) -> Registers {
 /// Of an entry with all bits set, ireg by ireg: what is read, and the words after a write of 0.
 const IREGS: [(u64, Entry); 6] = [
     (u64::MAX, entry(0, u64::MAX, u64::MAX)),
-    (!1, entry(u64::MAX, 0, u64::MAX)),
+    (u64::MAX, entry(u64::MAX, 0, u64::MAX)),
     (0xFFFF_800F, entry(u64::MAX, u64::MAX, 0)),
     (0, FULL),
     (0, FULL),
@@ -341,6 +341,66 @@ fn iregs_reach_the_words_of_an_entry() {
             assert_eq!((read, entry), (reading, FULL), "{mode:?} {csr:#x}");
             let old = value(&mut registers, &mut entry, Operation::Write, csr, 0);
             assert_eq!((old, entry), (reading, zeroed), "{mode:?} {csr:#x}");
+            assert_eq!(registers, selecting(mode));
+        }
+    }
+}
+
+/// The modes and the CSR numbers through which ctrtarget is reached.
+const CTRTARGETS: [(Mode, u64); 5] = [
+    (Mode::S, csr::SIREG2),
+    (Mode::M, csr::SIREG2),
+    (Mode::VS, csr::SIREG2),
+    (Mode::S, csr::VSIREG2),
+    (Mode::M, csr::VSIREG2),
+];
+
+/// Bit 0, MISP, as well as those of the address.
+#[test]
+fn each_bit_of_ctrtarget_is_written_and_read() {
+    for (mode, csr) in CTRTARGETS {
+        for bit in 0..64 {
+            let mut registers = selecting(mode);
+            let mut kept = Entry::default();
+            let write = Operation::Write;
+            value(&mut registers, &mut kept, write, csr, 1 << bit);
+            assert_eq!(kept, entry(0, 1 << bit, 0), "{mode:?} {csr:#x} bit {bit}");
+            let read = value(&mut registers, &mut kept, Operation::Read, csr, 0);
+            assert_eq!((read, kept), (1 << bit, entry(0, 1 << bit, 0)));
+        }
+    }
+}
+
+/// Each operation with MISP in its operand or not, on ctrtarget with MISP or not. Of the address
+/// only writes change anything here.
+#[test]
+fn misp_is_written_set_and_cleared() {
+    let cases = [
+        // operation, operand, ctrtarget before and after
+        (Operation::Read, 1, 0x2000, 0x2000),
+        (Operation::Read, 1, 0x2001, 0x2001),
+        (Operation::Write, 0x3000, 0x2000, 0x3000),
+        (Operation::Write, 0x3000, 0x2001, 0x3000),
+        (Operation::Write, 0x3001, 0x2000, 0x3001),
+        (Operation::Write, 0x3001, 0x2001, 0x3001),
+        (Operation::Write, 0, 0x2001, 0),
+        (Operation::Write, 1, 0x2000, 1),
+        (Operation::Set, 0, 0x2000, 0x2000),
+        (Operation::Set, 0, 0x2001, 0x2001),
+        (Operation::Set, 1, 0x2000, 0x2001),
+        (Operation::Set, 1, 0x2001, 0x2001),
+        (Operation::Clear, 0, 0x2000, 0x2000),
+        (Operation::Clear, 0, 0x2001, 0x2001),
+        (Operation::Clear, 1, 0x2000, 0x2000),
+        (Operation::Clear, 1, 0x2001, 0x2000),
+    ];
+    for (mode, csr) in CTRTARGETS {
+        for (operation, operand, before, after) in cases {
+            let mut registers = selecting(mode);
+            let mut changed = entry(0x1000, before, 9);
+            let old = value(&mut registers, &mut changed, operation, csr, operand);
+            assert_eq!(old, before, "{mode:?} {csr:#x} {operation:?}");
+            assert_eq!(changed, entry(0x1000, after, 9), "{mode:?} {csr:#x}");
             assert_eq!(registers, selecting(mode));
         }
     }

@@ -17,6 +17,7 @@ const CALL: Retired = Retired {
     pc: 0x1000,
     target: 0x2000,
     taken: false,
+    mispredicted: false,
     cycles: 0,
 };
 
@@ -42,6 +43,14 @@ fn samples() -> Vec<(Row, Event)> {
         taken: true,
         ..CALL
     };
+    let mispredicted = Retired {
+        mispredicted: true,
+        ..CALL
+    };
+    let both = Retired {
+        mispredicted: true,
+        ..taken
+    };
     let interrupt = Trap {
         target_mode: Mode::VS,
         is_interrupt: true,
@@ -50,6 +59,8 @@ fn samples() -> Vec<(Row, Event)> {
     vec![
         ([0x000, 0xef, 0x1000, 0x2000], Event::Retired(CALL)),
         ([0x100, 0xef, 0x1000, 0x2000], Event::Retired(taken)),
+        ([0x200, 0xef, 0x1000, 0x2000], Event::Retired(mispredicted)),
+        ([0x300, 0xef, 0x1000, 0x2000], Event::Retired(both)),
         ([0x101, u64::MAX, 0x3000, 0x4000], Event::Trap(EXCEPTION)),
         ([0xC01, u64::MAX, 0x3000, 0x4000], Event::Trap(interrupt)),
         ([0x302, 0, 0x5000, 0x6000], Event::TrapReturn(RETURN)),
@@ -116,6 +127,67 @@ fn cycles_are_the_upper_half_of_word_0() {
     }
 }
 
+/// Bits 8 and 9, each without the other and with it, below any cycles and beside any addresses:
+/// bit 0 of these is no flag.
+#[test]
+fn taken_and_mispredicted_are_flags_of_their_own() {
+    for cycles in [0, 1, 0x1234_5678, u32::MAX] {
+        for (flags, taken, mispredicted) in [
+            (0x000, false, false),
+            (0x100, true, false),
+            (0x200, false, true),
+            (0x300, true, true),
+        ] {
+            for address in [0, 1, 0x2000, 0x2001, u64::MAX] {
+                let event = Event::Retired(Retired {
+                    word: 0xFFFF_FFFF,
+                    pc: address,
+                    target: address,
+                    taken,
+                    mispredicted,
+                    cycles,
+                });
+                let head = u64::from(cycles) << 32 | flags | RETIRED;
+                let row = [head, 0xFFFF_FFFF, address, address];
+                assert_eq!(decode(row), Ok(event));
+                assert_eq!(encode(event), row);
+            }
+        }
+    }
+}
+
+/// A part of a mode's code or of an operation's, the host's bit for hstateen0, or malformed.
+#[test]
+fn bit_9_is_something_else_in_other_kinds() {
+    let trap = Trap {
+        target_mode: Mode::M,
+        cause: 0,
+        epc: 0,
+        handler: 0,
+        ..EXCEPTION
+    };
+    let trap_return = TrapReturn {
+        target_mode: Mode::M,
+        pc: 0,
+        target: 0,
+        ..RETURN
+    };
+    let set = Access {
+        operation: Operation::Set,
+        csr: 0,
+        operand: 0,
+    };
+    for (kind, expected) in [
+        (TRAP, Ok(Event::Trap(trap))),
+        (TRAP_RETURN, Ok(Event::TrapReturn(trap_return))),
+        (ACCESS, Ok(Event::Access(set))),
+        (SCTRCLR, Err(0)),
+        (HOST, Ok(host_event(false, true))),
+    ] {
+        assert_eq!(decode([1 << 9 | kind, 0, 0, 0]), expected, "kind {kind}");
+    }
+}
+
 #[test]
 fn modes_go_by_their_codes() {
     for (code, mode) in (0..).zip([Mode::U, Mode::S, Mode::M, Mode::VU, Mode::VS]) {
@@ -151,7 +223,7 @@ fn there_are_no_other_mode_codes() {
 #[test]
 fn there_are_no_other_bits_in_word_0() {
     for (kind, bits, end) in [
-        (RETIRED, 1, 32),
+        (RETIRED, 2, 32),
         (TRAP, 4, 32),
         (TRAP_RETURN, 3, 32),
         (ACCESS, 2, 64),
@@ -165,11 +237,21 @@ fn there_are_no_other_bits_in_word_0() {
     }
 }
 
+#[test]
+fn flags_of_a_retired_word_do_not_make_up_for_other_bits() {
+    for flags in [0x000, 0x100, 0x200, 0x300] {
+        for place in 10..32 {
+            let head = 1 << place | flags | RETIRED;
+            assert_eq!(decode([head, 0xef, 0x1000, 0x2000]), Err(0), "bit {place}");
+        }
+    }
+}
+
 /// Nor do cycles make up for what is wrong below them.
 #[test]
 fn cycles_have_no_part_in_the_other_rules() {
     let cycles = 0xFFFF_FFFF << 32;
-    for head in [0x200, 1 << 31, 0x1001, 1 << 31 | 1, 0x802, 1 << 31 | 2, 6] {
+    for head in [0x400, 1 << 31, 0x1001, 1 << 31 | 1, 0x802, 1 << 31 | 2, 6] {
         assert_eq!(decode([cycles | head, 0, 0, 0]), Err(0), "{head:#x}");
     }
     assert_eq!(decode([cycles | RETIRED, 1 << 32, 0, 0]), Err(1));
@@ -207,7 +289,8 @@ fn instructions_have_32_bits_and_csr_numbers_12() {
 
 #[test]
 fn the_first_broken_word_is_named() {
-    assert_eq!(decode([2 << 8 | RETIRED, u64::MAX, 0, 0]), Err(0));
+    assert_eq!(decode([4 << 8 | RETIRED, u64::MAX, 0, 0]), Err(0));
+    assert_eq!(decode([2 << 8 | RETIRED, u64::MAX, 0, 0]), Err(1));
     assert_eq!(decode([5 << 8 | TRAP_RETURN, 1, 0, 0]), Err(0));
     assert_eq!(decode([4 << 8 | ACCESS, 4096, 0, 1]), Err(0));
     assert_eq!(decode([ACCESS, 4096, 0, 1]), Err(1));

@@ -113,7 +113,7 @@ fn rust_round() -> u64 {
     }
     let mut digest = 0;
     for i in 0..CALLS {
-        let value: Value = recorder.retire(JAL, 0, i << 2, i << 3, 0);
+        let value: Value = recorder.retire(JAL, 0, 0, i << 2, i << 3, 0);
         digest = extended(digest, [0, value as u64]);
     }
     with_state(digest, &recorder)

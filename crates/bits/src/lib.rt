@@ -3,6 +3,7 @@
 ghost use mathlib.Core.Path.{_≡_};
 ghost use Prim.Native.Nat.{_+_, _*_, _/_, _%_, _^_};
 ghost use lib.Dec.{eqb};
+ghost use Rattle.bits.specs.Choice.{if_then_else_};
 ghost use Rattle.bits.specs.Words.{bitAt, fieldAt, keep, joined, without, isFromTo};
 
 // Whether bit n of x is set.
@@ -82,6 +83,13 @@ pub fn clear_bit0(x: u64) -> u64
     ensures { λ r. ⌜ r ≡ x / 2 * 2 ⌝ }
 {
     x & 0xFFFF_FFFF_FFFF_FFFE
+}
+
+// x with bit 0 as given.
+pub fn with_bit0(x: u64, b: bool) -> u64
+    ensures { λ r. ⌜ r ≡ x / 2 * 2 + (if b then 1 else 0) ⌝ }
+{
+    if b { set_bit0(x) } else { clear_bit0(x) }
 }
 
 // Whether a number lies from the first to the last.

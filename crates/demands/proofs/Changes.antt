@@ -28,7 +28,7 @@ use Rattle.demands.specs.States.{depth}
 use Rattle.demands.specs.Registers as Registers
 use Rattle.demands.specs.Registers.{Reaches, selected, physical, changedAt, ctrsourceTo, ctrtargetTo, ctrdataTo, putAt, put}
 use Rattle.demands.specs.Steps.{Asked, Window, Outside, Step1, Step2, Step3, Step4, Step5, Step6}
-use Rattle.demands.specs.Transfers.{recordOf, withoutV, withRecord, withPop, withSwap, withFreeze, withMove}
+use Rattle.demands.specs.Transfers.{withRecord, withPop, withSwap, withFreeze, withMove}
 use Rattle.demands.specs.Demands.{NotRefused, TransferAt, GrantedAt, Demand1At, Demand2At}
 use Rattle.demands.specs.Changes.{Writes, SelectsEntry, Cause, Accounted}
 use Rattle.demands.proofs.Decides.{holds}
@@ -56,7 +56,7 @@ put-or-same w at i e = ⊎-elim (λ h. inl h) (λ n. inr (other (eqb-false _ _ n
 ended : {A : Type 0} (s t u : State) (i : ℕ) → t ≡ u → Same s u i ⊎ A → Same s t i ⊎ A
 ended s t u i h p = ⊎-elim (λ q. inl (ap (λ (x : State). entryAt (entriesIn x) i) h ∙ q)) (λ a. inr a) p
 
--- an entry put at a place, for a cause of that place
+-- an entry put at a place, whatever it is, for a cause of that place
 put-at : {A : Type 0} (s : State) (r : Registers) (at i : ℕ) (e : Entry) → (i ≡ at → A)
     → Same s (stateOf r (withEntry (entriesIn s) at e)) i ⊎ A
 put-at s r at i e c = ⊎-elim (λ h. inr (c h)) (λ q. inl q) (put-or-same (entriesIn s) at i e)
@@ -68,23 +68,20 @@ transfer-changes s e t i a n = go (upto4 (t .value) (a .no-other))
     r : Registers
     r = s .registers
 
-    newest : Entry
-    newest = entryAt (entriesIn s) (physical r 0)
-
     go : Upto4 (t .value) → Same s (t .state) i ⊎ Cause (s .registers) i e
     go (is-0 v) = ended s (t .state) (withMove s e) i (a .nothing n v) (inl refl)
     go (is-1 v) =
         let q = a .qualifies .0 v in
         ended s (t .state) (withRecord s e) i (a .recorded .0 v)
-        (put-at s (withRecord s e .registers) (r .buffer .wrptr) i (recordOf r e) (λ h. Cause.recorded (q .0) (q .1) h))
+        (put-at s (withRecord s e .registers) (r .buffer .wrptr) i _ (λ h. Cause.recorded (q .0) (q .1) h))
     go (is-2 v) =
         let q = a .pops .0 v in
         ended s (t .state) (withPop s e) i (a .popped .0 v)
-        (put-at s (withPop s e .registers) (physical r 0) i (withoutV newest) (λ h. Cause.popped (q .0) (q .1) h))
+        (put-at s (withPop s e .registers) (physical r 0) i _ (λ h. Cause.popped (q .0) (q .1) h))
     go (is-3 v) =
         let q = a .swaps .0 v in
         ended s (t .state) (withSwap s e) i (a .swapped v)
-        (put-at s (withSwap s e .registers) (physical r 0) i (recordOf r e) (λ h. Cause.swapped (q .0) (q .1) h))
+        (put-at s (withSwap s e .registers) (physical r 0) i _ (λ h. Cause.swapped (q .0) (q .1) h))
     go (is-4 v) = ended s (t .state) (withFreeze s e) i (a .frozen v) (inl refl)
 
 -- an access that is answered has its selection in the window

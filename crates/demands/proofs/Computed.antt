@@ -49,7 +49,7 @@ fresh =
     zeros
 
 abbrev pub word : RetiredWord
-word = record { word = 0x000000EF; pc = 0x1000; target = 0x2000; taken = false; cycles = 0 }
+word = record { word = 0x000000EF; pc = 0x1000; target = 0x2000; taken = false; mispredicted = false; cycles = 0 }
 
 abbrev pub call : Event
 call = Retired word

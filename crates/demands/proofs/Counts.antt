@@ -13,6 +13,7 @@ use Rattle.bits.specs.Words.{bitAt, fieldAt}
 use Rattle.machine.specs.Modes.{onOf}
 use Rattle.machine.specs.Regs.{withCycles, noCycles}
 use Rattle.machine.specs.declared.Cycles.{Cycles}
+use Rattle.machine.specs.declared.Entry.{Entry}
 use Rattle.machine.specs.declared.Mode.{Mode}
 use Rattle.machine.specs.declared.Registers.{Registers}
 use Rattle.machine.specs.declared.Event.{Event}
@@ -24,7 +25,7 @@ use Rattle.transfers.specs.Records.{entryFor}
 use Rattle.transfers.proofs.CountLaws.{top, powers-lt}
 use Rattle.demands.specs.States.{Free}
 use Rattle.demands.specs.Counts.{topBit, CCE, CCM}
-use Rattle.demands.specs.Transfers.{switch, modeAfter, RASEMU, Qualifies, Swaps, Pops, cyclesOf, counts, counter, counted, restarted, ctrdataOf, entryOf}
+use Rattle.demands.specs.Transfers.{switch, modeAfter, RASEMU, Qualifies, Swaps, Pops, cyclesOf, counts, counter, counted, restarted, ctrdataOf, MISP, entryOf}
 use Rattle.demands.specs.Transfers.Qualifies.{retired, on-to-on, off-to-on, on-to-off, return, call}
 use Rattle.demands.specs.Transfers.Swaps.{type-12}
 use Rattle.demands.specs.Rows.{flag}
@@ -163,12 +164,17 @@ module _ (r : Registers) (e : Event) (f : Free r) (t : ℕ) (small : t < 16) whe
   data-is : Qualifies r e → dataOf (counted r e .cycles) ≡ ctrdataOf r e t
   data-is q = ⊎-elim plain (λ p. emulated (p .0) (p .1)) (ordinary q)
 
-  pub record-is : (a b : ℕ) → Qualifies r e
-      → stamped (entryFor a b t) (tallied r (emulates r e) (cyclesOf e) .cycles) ≡ entryOf a b (ctrdataOf r e t)
-  unfolding stamped entryFor
-  record-is a b q =
-      ap (λ (c : Cycles). entryOf a b (dataOf c)) (ap (λ (x : Registers). x .cycles) (tally-is r e f)) ∙ ap (entryOf a b) (data-is q)
+  -- an entry with these addresses and the event's MISP
+  abbrev holding : ℕ → ℕ → ℕ → Entry
+  holding a b x = record { ctrsource = a / 2 * 2 + 1; ctrtarget = b / 2 * 2 + MISP e; ctrdata = x }
 
-  pub swap-is : (a b : ℕ) → Swaps r e → entryFor a b t ≡ entryOf a b (ctrdataOf r e t)
+  pub record-is : (a b : ℕ) (m : Bool) → (if m then 1 else 0) ≡ MISP e → Qualifies r e
+      → stamped (entryFor a b m t) (tallied r (emulates r e) (cyclesOf e) .cycles) ≡ entryOf r e a b t
+  unfolding stamped entryFor
+  record-is a b m g q =
+      rw g
+      (ap (λ (c : Cycles). holding a b (dataOf c)) (ap (λ (x : Registers). x .cycles) (tally-is r e f)) ∙ ap (holding a b) (data-is q))
+
+  pub swap-is : (a b : ℕ) (m : Bool) → (if m then 1 else 0) ≡ MISP e → Swaps r e → entryFor a b m t ≡ entryOf r e a b t
   unfolding entryFor
-  swap-is a b w = rw (swap-emulates w)
+  swap-is a b m g w = rw (swap-emulates w, g)

@@ -4,6 +4,7 @@ use mathlib.Core.Path.{_≡_, refl, ap, _∙_}
 use mathlib.Core.Bool.{Bool, true, false}
 use native.Mathlib.Nat.{mod-eq-of-lt}
 use native.Mathlib.Omega.{arith}
+use Rattle.bits.specs.Choice.{if_then_else_}
 use Rattle.machine.specs.Answers.{valueOf}
 use Rattle.machine.specs.Depths.{depthOf, physicalOf}
 use Rattle.machine.specs.declared.Decision.{Decision}
@@ -28,7 +29,7 @@ use Rattle.machine.specs.declared.Event.the-variants.{Retired, Trap, TrapReturn
 use Rattle.recorder.specs.declared.State.{State}
 use Rattle.demands.specs.States.{depth, Free, Traps, Returns, Impossible, wrptrTo, modeTo, frozenTo}
 use Rattle.demands.specs.Registers.{physical}
-use Rattle.demands.specs.Transfers.{recordOf, modeAfter, withoutV, withRecord, withPop, withSwap, withFreeze, withMove, oneUp, oneDown, Qualifies, Pops, Swaps, trapType, cyclesOf, ctrdataOf, entryOf, counted}
+use Rattle.demands.specs.Transfers.{recordOf, modeAfter, withoutV, withRecord, withPop, withSwap, withFreeze, withMove, oneUp, oneDown, Qualifies, Pops, Swaps, trapType, cyclesOf, MISP, entryOf, counted}
 use Rattle.demands.proofs.Decides.{holds}
 use Rattle.demands.proofs.Free.{free}
 use Rattle.demands.proofs.Outcomes.{outcomeIn, Says, says}
@@ -93,16 +94,16 @@ pops (type-13 z x o t) = (tt, refl)
 swaps : {r : Registers} {e : Event} → Swaps r e → IsWord e × (modeAfter r e ≡ r .mode)
 swaps (type-12 z x o t) = (tt, refl)
 
--- an outcome done where the rules say so, with the record that has the type t and these addresses
-module _ (s : State) (e : Event) (f : Free (s .registers)) (a b t : ℕ) (small : t < 16)
-    (same : entryOf a b (ctrdataOf (s .registers) e t) ≡ recordOf (s .registers) e) where
+-- an outcome done where the rules say so, with the record that has the type t, these addresses and the flag m
+module _ (s : State) (e : Event) (f : Free (s .registers)) (a b : ℕ) (m : Bool) (flagged : (if m then 1 else 0) ≡ MISP e) (t : ℕ) (small : t < 16)
+    (same : entryOf (s .registers) e a b t ≡ recordOf (s .registers) e) where
   abbrev r : Registers
   r = s .registers
 
   abbrev decision : Entry → Outcome → Decision
   decision old o =
       let ra = rasemuOf r (r .mode) (modeAfter r e) in
-      inMode (doneOf (tallied r ra (cyclesOf e)) old (entryFor a b t) ra o) (modeAfter r e)
+      inMode (doneOf (tallied r ra (cyclesOf e)) old (entryFor a b m t) ra o) (modeAfter r e)
 
   -- the registers, by the counter that the event finds or leaves
   moved : (g : Registers → Registers) {x y : Registers} → x ≡ y → (w : Entries) → stateOf (g x) w ≡ stateOf (g y) w
@@ -128,8 +129,8 @@ module _ (s : State) (e : Event) (f : Free (s .registers)) (a b t : ℕ) (small 
   unfolding doneOf appliedOf advanced
   recorded q old = (
     refl,
-    rw (up-is r f, at-pointer r f, record-is r e f t small a b q, ← same)
-        (moved (λ (x : Registers). modeTo (modeAfter r e) (wrptrTo (oneUp r) x)) (restart-is r e f) (withEntry (entriesIn s) (r .buffer .wrptr) (entryOf a b (ctrdataOf r e t)))),
+    rw (up-is r f, at-pointer r f, record-is r e f t small a b m flagged q, ← same)
+        (moved (λ (x : Registers). modeTo (modeAfter r e) (wrptrTo (oneUp r) x)) (restart-is r e f) (withEntry (entriesIn s) (r .buffer .wrptr) (entryOf r e a b t))),
   )
 
   popped : Pops r e → (let p = physicalOf (r .buffer .code) (r .buffer .wrptr) 0 in Does s e (decision (entryAt (entriesIn s) p) Pop) p Pop)
@@ -144,8 +145,8 @@ module _ (s : State) (e : Event) (f : Free (s .registers)) (a b t : ℕ) (small 
   unfolding doneOf appliedOf
   swapped q old = (
     refl,
-    rw (at-newest r, swap-is r e f t small a b q, ← same)
-        (stayed (λ (x : Registers). x) (swaps q .1) (withEntry (entriesIn s) (physical r 0) (entryOf a b (ctrdataOf r e t)))),
+    rw (at-newest r, swap-is r e f t small a b m flagged q, ← same)
+        (stayed (λ (x : Registers). x) (swaps q .1) (withEntry (entriesIn s) (physical r 0) (entryOf r e a b t))),
   )
 
   -- on the entry that the outcome is about
@@ -205,8 +206,8 @@ unfolding stepOf appliedTo decidedOf decideOf eventOf focusOf retiredOf outcomeI
 retired-steps s w f =
     let r = s .registers in
     let o = retiredOutcome r (typeIn r w) in
-    rw (free r .to f, ← stays r (entryAt (entriesIn s) (Done.outcomeFocus (r .buffer) o)) (entryFor (w .pc) (w .target) (typeIn r w)) (rasemuOf r (r .mode) (r .mode)) (w .cycles) o)
-    (does s (Retired w) f (w .pc) (w .target) (typeIn r w) (word-small (transferOf (w .word)) (w .taken)) refl o (says r (Retired w)))
+    rw (free r .to f, ← stays r (entryAt (entriesIn s) (Done.outcomeFocus (r .buffer) o)) (entryFor (w .pc) (w .target) (w .mispredicted) (typeIn r w)) (rasemuOf r (r .mode) (r .mode)) (w .cycles) o)
+    (does s (Retired w) f (w .pc) (w .target) (w .mispredicted) refl (typeIn r w) (word-small (transferOf (w .word)) (w .taken)) refl o (says r (Retired w)))
 
 trap-steps : (s : State) (t : TrapTo) → Free (s .registers) → Traps (s .registers .mode) (t .mode) → Steps s (Trap t)
 unfolding stepOf appliedTo decidedOf decideOf eventOf focusOf trapOf takenTrap crossedOf crossing outcomeIn
@@ -214,7 +215,7 @@ trap-steps s t f p =
     let r = s .registers in
     let g = traps (r .mode) (t .mode) .to p in
     rw (free r .to f, g, side-is r (r .mode) (t .epc), side-is r (t .mode) (t .handler))
-    (crosses s (Trap t) f _ _ (trapType (t .interrupt)) (trap-small (t .interrupt)) refl (λ x. x) (trapOutcome r t) (rw g at (says r (Trap t))))
+    (crosses s (Trap t) f _ _ false refl (trapType (t .interrupt)) (trap-small (t .interrupt)) refl (λ x. x) (trapOutcome r t) (rw g at (says r (Trap t))))
 
 return-steps : (s : State) (t : ReturnTo) → Free (s .registers) → Returns (s .registers .mode) (t .mode) → Steps s (TrapReturn t)
 unfolding stepOf appliedTo decidedOf decideOf eventOf focusOf returnOf takenReturn crossedOf crossing outcomeIn
@@ -222,7 +223,7 @@ return-steps s t f p =
     let r = s .registers in
     let g = returns (r .mode) (t .mode) .to p in
     rw (free r .to f, g, side-is r (r .mode) (t .pc), side-is r (t .mode) (t .target))
-    (crosses s (TrapReturn t) f _ _ 3 (omega arith) refl (λ x. x) (returnOutcome r (t .mode)) (rw g at (says r (TrapReturn t))))
+    (crosses s (TrapReturn t) f _ _ false refl 3 (omega arith) refl (λ x. x) (returnOutcome r (t .mode)) (rw g at (says r (TrapReturn t))))
 
 -- what is done with an event that is not refused
 pub steps : (s : State) (e : Event) → IsTransfer e → Free (s .registers) → (Impossible (s .registers) e → ⊥) → Steps s e

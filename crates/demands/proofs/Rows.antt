@@ -34,6 +34,9 @@ module _ (h n : ℕ) (l : h < 0x100000000) where
   taken-is : bitAt word-0 8 ≡ bitAt h 8
   taken-is = omega arith
 
+  mispredicted-is : bitAt word-0 9 ≡ bitAt h 9
+  mispredicted-is = omega arith
+
   target-is : fieldAt word-0 8 3 ≡ fieldAt h 8 3
   target-is = omega arith
 
@@ -44,19 +47,21 @@ module _ (h n : ℕ) (l : h < 0x100000000) where
   cycles-is = omega (arith, l)
 
 -- the words of an event are decoded to it
-retired-at : (h n word pc target : ℕ) → h % 0x100 ≡ 0 → h < 0x200 → word < 0x100000000
+retired-at : (h n word pc target : ℕ) → h % 0x100 ≡ 0 → h < 0x400 → word < 0x100000000
     → rowOf (h + 0x100000000 * n) word pc target
-    ≡ WellFormed (Retired (record { word = word; pc = pc; target = target; taken = eqb (bitAt h 8) 1; cycles = n }))
+    ≡ WellFormed (Retired (record { word = word; pc = pc; target = target; taken = eqb (bitAt h 8) 1; mispredicted = eqb (bitAt h 9) 1; cycles = n }))
 unfolding isRetiredRow retiredRow rowBy rowOf
 retired-at h n word pc target k l w =
     let f : h < 0x100000000 = omega (arith, l) in
-    rw (kind-is h n f, k, head-is h n f, lt-ltb h 0x200 l, lt-ltb _ _ w, taken-is h n f, cycles-is h n f)
+    rw (kind-is h n f, k, head-is h n f, lt-ltb h 0x400 l, lt-ltb _ _ w, taken-is h n f, mispredicted-is h n f, cycles-is h n f)
 
-retired : (taken : Bool) (n word pc target : ℕ) → word < 0x100000000
-    → rowOf (0 + 0x100 * flag taken + 0x100000000 * n) word pc target
-    ≡ WellFormed (Retired (record { word = word; pc = pc; target = target; taken = taken; cycles = n }))
-retired true n word pc target h = retired-at 0x100 n word pc target refl (omega arith) h
-retired false n word pc target h = retired-at 0 n word pc target refl (omega arith) h
+retired : (taken misp : Bool) (n word pc target : ℕ) → word < 0x100000000
+    → rowOf (0 + 0x100 * flag taken + 0x200 * flag misp + 0x100000000 * n) word pc target
+    ≡ WellFormed (Retired (record { word = word; pc = pc; target = target; taken = taken; mispredicted = misp; cycles = n }))
+retired true true n word pc target h = retired-at 0x300 n word pc target refl (omega arith) h
+retired true false n word pc target h = retired-at 0x100 n word pc target refl (omega arith) h
+retired false true n word pc target h = retired-at 0x200 n word pc target refl (omega arith) h
+retired false false n word pc target h = retired-at 0 n word pc target refl (omega arith) h
 
 trap-at : (h n cause epc handler : ℕ) → h % 0x100 ≡ 1 → h < 0x1000 → fieldAt h 8 3 < 5
     → rowOf (h + 0x100000000 * n) cause epc handler
@@ -122,7 +127,7 @@ row w = rowOf (w .zero) (w .one) (w .two) (w .three)
 
 of-event : (e : Event) → Fits e → row (wordsOf e) ≡ WellFormed e
 unfolding areZeros isPlainRow plainRow rowBy rowOf
-of-event (Retired w) h = retired (w .taken) (w .cycles) (w .word) (w .pc) (w .target) h
+of-event (Retired w) h = retired (w .taken) (w .mispredicted) (w .cycles) (w .word) (w .pc) (w .target) h
 of-event (Trap t) h = trap (t .mode) (t .interrupt) (t .cycles) (t .cause) (t .epc) (t .handler)
 of-event (TrapReturn t) h = trap-return (t .mode) (t .cycles) (t .pc) (t .target)
 of-event (Access a) h = access (a .operation) (a .number) (a .operand) h
@@ -156,8 +161,9 @@ operation-is (suc (suc (suc zero))) h = refl
 operation-is (suc (suc (suc (suc n)))) h = absurd (omega arith)
 
 -- word 0 from its kind, its size and its fields
-retired-word : (w : ℕ) → w % 0x100 ≡ 0 → w % 0x100000000 < 0x200 → w ≡ 0 + 0x100 * flag (eqb (bitAt w 8) 1) + 0x100000000 * (w / 0x100000000)
-retired-word w k l = rw (flag-is (bitAt w 8) (omega arith)) (omega (arith, k, l))
+retired-word : (w : ℕ) → w % 0x100 ≡ 0 → w % 0x100000000 < 0x400
+    → w ≡ 0 + 0x100 * flag (eqb (bitAt w 8) 1) + 0x200 * flag (eqb (bitAt w 9) 1) + 0x100000000 * (w / 0x100000000)
+retired-word w k l = rw (flag-is (bitAt w 8) (omega arith), flag-is (bitAt w 9) (omega arith)) (omega (arith, k, l))
 
 trap-word : (w : ℕ) → w % 0x100 ≡ 1 → w % 0x100000000 < 0x1000 → fieldAt w 8 3 < 5
     → w ≡ 1 + 0x100 * modeCode (modeOf (fieldAt w 8 3)) + 0x800 * flag (eqb (bitAt w 11) 1) + 0x100000000 * (w / 0x100000000)
@@ -201,7 +207,7 @@ module _ (w a b c : ℕ) where
   right-retired : w % 0x100 ≡ 0 → Right (words w a b c) (retiredRow w a b c)
   unfolding retiredRow isRetiredRow
   right-retired k =
-      by (pair _ _ (below (w % 0x100000000) 0x200) (below a 0x100000000))
+      by (pair _ _ (below (w % 0x100000000) 0x400) (below a 0x100000000))
       (λ l. event (record { fits = l .1; same = ap (λ (x : ℕ). words x a b c) (retired-word w k (l .0)) })) none
 
   right-trap : w % 0x100 ≡ 1 → Right (words w a b c) (trapRow w a b c)

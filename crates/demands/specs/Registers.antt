@@ -1,5 +1,5 @@
 -- Registers (docs/RULES.md, R1 to R16 and R23): what a CSR number reaches, what each register reads as, and the state after a write.
-use Prim.Native.Nat.{ℕ, zero, suc, _+_, _-_, _*_, _/_, _%_, _<_, min}
+use Prim.Native.Nat.{ℕ, zero, suc, _+_, _-_, _%_, _<_, min}
 use mathlib.Core.Path.{_≡_}
 use mathlib.Core.Bool.{false}
 use lib.Dec.{eqb, ltb}
@@ -100,11 +100,11 @@ pub record Logical (r : Registers) (i p : ℕ) : Type 0 where
   pub below : p < depth (r .buffer .code)
   pub place : (p + 1 + i) % depth (r .buffer .code) ≡ r .buffer .wrptr
 
--- sireg reaches ctrsource, sireg2 ctrtarget (bit 0 reads 0), sireg3 ctrdata (CC in bits 31..16, CCV bit 15, TYPE in 3..0, mask
--- 0xFFFF800F); sireg4 to sireg6 read 0
+-- sireg reaches ctrsource (V is bit 0), sireg2 ctrtarget (MISP is bit 0), sireg3 ctrdata (CC in bits 31..16, CCV bit 15, TYPE in
+-- 3..0, mask 0xFFFF800F); sireg4 to sireg6 read 0
 abbrev pub word : Entry → ℕ → ℕ
 word e zero = e .ctrsource
-word e (suc zero) = e .ctrtarget / 2 * 2
+word e (suc zero) = e .ctrtarget
 word e (suc (suc zero)) = keep 0xFFFF800F (e .ctrdata)
 word e (suc (suc (suc k))) = 0
 
@@ -135,12 +135,12 @@ changedAt s selection c =
     let p = physical r i in
     if ltb i (depth (r .buffer .code)) then stateOf r (withEntry (entriesIn s) p (c (entryAt (entriesIn s) p))) else s
 
--- an entry with one of its words written, and 0 stored in the bits that read 0
+-- an entry with one of its words written, of ctrdata with 0 stored in the bits outside its mask
 abbrev pub ctrsourceTo : ℕ → Entry → Entry
 ctrsourceTo x e = record { ctrsource = x; ctrtarget = e .ctrtarget; ctrdata = e .ctrdata }
 
 abbrev pub ctrtargetTo : ℕ → Entry → Entry
-ctrtargetTo x e = record { ctrsource = e .ctrsource; ctrtarget = x / 2 * 2; ctrdata = e .ctrdata }
+ctrtargetTo x e = record { ctrsource = e .ctrsource; ctrtarget = x; ctrdata = e .ctrdata }
 
 abbrev pub ctrdataTo : ℕ → Entry → Entry
 ctrdataTo x e = record { ctrsource = e .ctrsource; ctrtarget = e .ctrtarget; ctrdata = keep 0xFFFF800F x }

@@ -115,7 +115,8 @@ kept f s (e ∷ l) [] = []
 kept f s (e ∷ l) (x ∷ xs) = if struck (s .registers) e then kept f (f s e .state) l xs else (x ∷ kept f (f s e .state) l xs)
 
 -- demand 3 over rows: two slices of well-formed rows with room for their answers, from one state. If what is left of both, by each
--- run's own states, is equal but for addresses of sides that are off, the answers left are the same list, and so are the end states
+-- run's own states, is equal but for addresses of sides that are off and the cycles of traps and returns from modes that are off, the
+-- answers left are the same list, and so are the end states
 abbrev pub Demand3OverRows : Recorder → Type 0
 Demand3OverRows f =
     (s : State) (ws vs a b : List ℕ) (l m : List Event) (r q : Replayed) (x y : List ℕ)

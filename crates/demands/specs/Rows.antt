@@ -41,11 +41,13 @@ operationCode Write = 1
 operationCode Set = 2
 operationCode Clear = 3
 
--- the words of an event. Word 0 has the kind in bits 7..0, and above it taken in bit 8; the target mode in bits 10..8, and of a trap
--- interrupt in bit 11; the operation in bits 9..8; mstateen0.CTR in bit 8 and hstateen0.CTR in bit 9. Retired words, traps and returns
--- have their cycles in bits 63..32. No other bit is set
+-- the words of an event. Word 0 has the kind in bits 7..0. Above it a retired word has taken in bit 8 and mispredicted in bit 9; a
+-- trap or return the target mode in bits 10..8, and a trap interrupt in bit 11; an access the operation in bits 9..8; the host's event
+-- mstateen0.CTR in bit 8 and hstateen0.CTR in bit 9. Retired words, traps and returns have their cycles in bits 63..32. No other bit is
+-- set
 abbrev pub wordsOf : Event → Words
-wordsOf (Retired w) = words (0 + 0x100 * flag (w .taken) + 0x100000000 * w .cycles) (w .word) (w .pc) (w .target)
+wordsOf (Retired w) =
+    words (0 + 0x100 * flag (w .taken) + 0x200 * flag (w .mispredicted) + 0x100000000 * w .cycles) (w .word) (w .pc) (w .target)
 wordsOf (Trap t) =
     words (1 + 0x100 * modeCode (t .mode) + 0x800 * flag (t .interrupt) + 0x100000000 * t .cycles) (t .cause) (t .epc) (t .handler)
 wordsOf (TrapReturn t) = words (2 + 0x100 * modeCode (t .mode) + 0x100000000 * t .cycles) 0 (t .pc) (t .target)

@@ -215,20 +215,30 @@ abbrev pub sideOf : ℕ → ℕ → ℕ
 sideOf zero pc = 0
 sideOf (suc on) pc = pc
 
--- a record: pc with bit 0 set (V), target with bit 0 clear, type and count
-abbrev pub entryOf : ℕ → ℕ → ℕ → Entry
-entryOf pc target x = record { ctrsource = pc / 2 * 2 + 1; ctrtarget = target / 2 * 2; ctrdata = x }
+-- MISP of a record or swap: the event's flag, or 0 for traps and trap returns
+abbrev pub MISP : Event → ℕ
+MISP (Retired w) = if w .mispredicted then 1 else 0
+MISP (Trap t) = 0
+MISP (TrapReturn t) = 0
+MISP (Access a) = 0
+MISP Sctrclr = 0
+MISP (Host h) = 0
+
+-- the record of an event: pc with bit 0 set (V), target with MISP in bit 0, type and count. Bit 0 of pc and target is ignored
+abbrev pub entryOf : Registers → Event → ℕ → ℕ → ℕ → Entry
+entryOf r e pc target type =
+    record { ctrsource = pc / 2 * 2 + 1; ctrtarget = target / 2 * 2 + MISP e; ctrdata = ctrdataOf r e type }
 
 -- what an event records, or puts in place of logical entry 0, if it does; accesses, SCTRCLR and the host's event never do
 abbrev pub recordOf : Registers → Event → Entry
-recordOf r (Retired w) = entryOf (w .pc) (w .target) (ctrdataOf r (Retired w) (typeOf w))
+recordOf r (Retired w) = entryOf r (Retired w) (w .pc) (w .target) (typeOf w)
 recordOf r (Trap t) =
-    entryOf (sideOf (switch r (r .mode)) (t .epc)) (sideOf (switch r (t .mode)) (t .handler)) (ctrdataOf r (Trap t) (trapType (t .interrupt)))
+    entryOf r (Trap t) (sideOf (switch r (r .mode)) (t .epc)) (sideOf (switch r (t .mode)) (t .handler)) (trapType (t .interrupt))
 recordOf r (TrapReturn t) =
-    entryOf (sideOf (switch r (r .mode)) (t .pc)) (sideOf (switch r (t .mode)) (t .target)) (ctrdataOf r (TrapReturn t) 3)
-recordOf r (Access a) = entryOf 0 0 0
-recordOf r Sctrclr = entryOf 0 0 0
-recordOf r (Host h) = entryOf 0 0 0
+    entryOf r (TrapReturn t) (sideOf (switch r (r .mode)) (t .pc)) (sideOf (switch r (t .mode)) (t .target)) 3
+recordOf r (Access a) = entryOf r (Access a) 0 0 0
+recordOf r Sctrclr = entryOf r Sctrclr 0 0 0
+recordOf r (Host h) = entryOf r (Host h) 0 0 0
 
 -- the mode, and what counts, alone
 abbrev pub withMove : State → Event → State

@@ -11,7 +11,7 @@ pub fn defined(k: u64, x: u64) -> u64
 {
     match k {
         0 => x,
-        1 => bits::clear_bit0(x),
+        1 => x,
         2 => bits::masked(x, CTRDATA_MASK),
         _ => 0,
     }

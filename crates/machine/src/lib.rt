@@ -92,13 +92,14 @@ pub struct Entry {
     pub ctrdata: u64,
 }
 
-// A retired word; a 16-bit one in the low half. Its cycles are those since the event before it; so of the
-// other two below.
+// A retired word; a 16-bit one in the low half. Mispredicted is the flag that a record or swap has as MISP.
+// Its cycles are those since the event before it; so of the other two below.
 pub struct RetiredWord {
     pub word: u32,
     pub pc: u64,
     pub target: u64,
     pub taken: bool,
+    pub mispredicted: bool,
     pub cycles: u32,
 }
 

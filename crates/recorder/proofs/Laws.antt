@@ -84,7 +84,7 @@ performed w v r e rasemu o at old d a p q f h = h ∙ rw (f, q, p)
 
 -- a retired word there: where recording is live its outcome is done, and else nothing
 pub live-step : (w v : Entries) (r q : Registers) (x : RetiredWord) (n : ℕ) (o : Outcome) (e : Entry) (ra : Bool) (a : Answered)
-    → liveOf r ≡ true → n ≡ typeIn r x → o ≡ liveOutcome r n → e ≡ entryFor (x .pc) (x .target) n
+    → liveOf r ≡ true → n ≡ typeIn r x → o ≡ liveOutcome r n → e ≡ entryFor (x .pc) (x .target) (x .mispredicted) n
     → ra ≡ rasemuOf r (r .mode) (r .mode) → q ≡ withCycles r (liveCycles (r .cycles) ra (x .cycles))
     → stepped a v ≡ outcomeTo w q e ra o → stepWith true (stateOf r w) (Retired x) ≡ stepped a v
 unfolding stepWith eventOf focusOf retiredOf retiredOutcome cyclesOf outcomeTo

@@ -158,10 +158,10 @@ fn retire_live(
 {
     let n = word_type(r, w);
     let o = live_outcome(r, n);
-    let e = entry_for(w.pc, w.target, n);
     let m = r.mode;
     let ra = rasemu(r, m, m);
     let q = tally_live(r, ra, w.cycles);
+    let e = entry_for(w.pc, w.target, w.mispredicted, n);
     perform(ctrsource, ctrtarget, ctrdata, q, e, ra, o)
 }
 

@@ -97,6 +97,7 @@ fn jal() -> Event {
         pc: 0x1000,
         target: 0x2000,
         taken: false,
+        mispredicted: false,
         cycles: 0,
     })
 }
@@ -107,6 +108,7 @@ fn function_return() -> Event {
         pc: 0x3000,
         target: 0x1004,
         taken: false,
+        mispredicted: false,
         cycles: 0,
     })
 }

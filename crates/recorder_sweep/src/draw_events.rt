@@ -170,12 +170,14 @@ pub(crate) fn cycles(n: u64) -> u32 {
     }
 }
 
-fn retired(w: u64, pc: u64, target: u64, taken: bool, n: u64) -> Event {
+// Taken and mispredicted are the two low bits of the flags.
+fn retired(w: u64, pc: u64, target: u64, flags: u64, n: u64) -> Event {
     Event::Retired(RetiredWord {
         word: word_of(w),
         pc,
         target,
-        taken,
+        taken: flags % 2 == 1,
+        mispredicted: flags / 2 % 2 == 1,
         cycles: cycles(n),
     })
 }
@@ -187,7 +189,7 @@ pub(crate) fn draw_word(random: u64) -> Drawn {
     let target = xorshift64(pc);
     let n = xorshift64(target);
     Drawn {
-        event: retired(w, address(pc), address(target), w / 256 % 2 == 1, n),
+        event: retired(w, address(pc), address(target), w / 256, n),
         random: n,
     }
 }
@@ -329,7 +331,7 @@ fn host(c: u64) -> Event {
 fn event_of(mode: Mode, k: u64, w: u64, x: u64, y: u64, z: u64, n: u64) -> Event {
     let c = k / 64;
     match k % 64 {
-        0..=29 => retired(w, x, y, c % 2 == 1, n),
+        0..=29 => retired(w, x, y, c, n),
         30..=37 => trap(mode, c, z, x, y, n),
         38..=45 => trap_return(mode, c, x, y, n),
         46..=57 => access(c, w, z),

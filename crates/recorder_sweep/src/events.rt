@@ -2,6 +2,7 @@
 use machine::Event;
 use machine::Mode;
 use machine::Registers;
+use machine::RetiredWord;
 use machine::ReturnTo;
 use machine::TrapTo;
 use machine::modes::is_on;
@@ -21,6 +22,14 @@ pub(crate) fn cycles_of(e: Event) -> u32 {
         Event::Trap(t) => t.cycles,
         Event::TrapReturn(t) => t.cycles,
         _ => 0,
+    }
+}
+
+// The flag of a retired word.
+pub(crate) fn is_mispredicted(e: Event) -> bool {
+    match e {
+        Event::Retired(w) => w.mispredicted,
+        _ => false,
     }
 }
 
@@ -55,6 +64,15 @@ pub(crate) fn is_transfer(e: Event) -> bool {
     }
 }
 
+// Traps and returns.
+pub(crate) fn is_crossing(e: Event) -> bool {
+    match e {
+        Event::Trap(_) => true,
+        Event::TrapReturn(_) => true,
+        _ => false,
+    }
+}
+
 fn addresses_of(e: Event) -> Addresses {
     match e {
         Event::Trap(t) => Addresses {
@@ -70,6 +88,12 @@ fn addresses_of(e: Event) -> Addresses {
             target: 0,
         },
     }
+}
+
+// The target of a trap or return, and 0 of others.
+pub(crate) fn target_of(e: Event) -> u64 {
+    let x = addresses_of(e);
+    x.target
 }
 
 // How many addresses two events of one kind differ in.
@@ -106,6 +130,17 @@ fn chosen_cycles(is_other: bool, cycles: u32, other: u32) -> u32 {
     if is_other { other } else { cycles }
 }
 
+fn chosen_flag(is_other: bool, flag: bool, other: bool) -> bool {
+    if is_other { other } else { flag }
+}
+
+// A word is retired in a mode: it has no target side.
+fn word_with(w: RetiredWord, off: BothOff, mispredicted: bool) -> Event {
+    let mut u = w;
+    u.mispredicted = chosen_flag(off.source, w.mispredicted, mispredicted);
+    Event::Retired(u)
+}
+
 fn trap_with(t: TrapTo, off: BothOff, source: u64, target: u64, cycles: u32) -> Event {
     let mut u = t;
     u.cycles = chosen_cycles(off.source, t.cycles, cycles);
@@ -123,7 +158,7 @@ fn return_with(t: ReturnTo, off: BothOff, source: u64, target: u64, cycles: u32)
 }
 
 // The mode that an event goes to; of others M, of which nothing is asked.
-fn mode_to(e: Event) -> Mode {
+pub(crate) fn mode_to(e: Event) -> Mode {
     match e {
         Event::Trap(t) => t.mode,
         Event::TrapReturn(t) => t.mode,
@@ -131,8 +166,16 @@ fn mode_to(e: Event) -> Mode {
     }
 }
 
-fn event_with(e: Event, off: BothOff, source: u64, target: u64, cycles: u32) -> Event {
+fn event_with(
+    e: Event,
+    off: BothOff,
+    source: u64,
+    target: u64,
+    cycles: u32,
+    mispredicted: bool,
+) -> Event {
     match e {
+        Event::Retired(w) => word_with(w, off, mispredicted),
         Event::Trap(t) => trap_with(t, off, source, target, cycles),
         Event::TrapReturn(t) => return_with(t, off, source, target, cycles),
         _ => e,
@@ -140,7 +183,7 @@ fn event_with(e: Event, off: BothOff, source: u64, target: u64, cycles: u32) -> 
 }
 
 // The event that run B gets for A's: with other addresses where that side is off in both runs, and with
-// other cycles where the source side is.
+// other cycles, or another flag of a word that is struck, where the source side is.
 pub(crate) fn with_addresses(
     e: Event,
     a: Registers,
@@ -148,6 +191,8 @@ pub(crate) fn with_addresses(
     source: u64,
     target: u64,
     cycles: u32,
+    mispredicted: bool,
 ) -> Event {
-    event_with(e, both_off(a, b, mode_to(e)), source, target, cycles)
+    let off = both_off(a, b, mode_to(e));
+    event_with(e, off, source, target, cycles, mispredicted)
 }

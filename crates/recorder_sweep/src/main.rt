@@ -7,6 +7,7 @@ mod draw_events;
 mod draw_states;
 mod edges;
 mod events;
+mod mispredictions;
 mod pairs;
 mod random_run;
 

@@ -9,6 +9,7 @@ use crate::draw_states::draw_entries;
 use crate::draw_states::draw_registers;
 use crate::events::cycles_of;
 use crate::events::differing_addresses;
+use crate::events::is_mispredicted;
 use crate::events::is_off;
 use crate::events::is_retired;
 use crate::events::with_addresses;
@@ -40,6 +41,7 @@ struct Tally {
     words_struck: u64,
     addresses_differed: u64,
     cycles_differed: u64,
+    flags_differed: u64,
     events_left: u64,
     answers_unequal: u64,
     end_states_unequal: u64,
@@ -197,7 +199,16 @@ fn run_shared(
     let source = xorshift64(drawn.random);
     let target = xorshift64(source);
     let n = xorshift64(target);
-    let other = with_addresses(e, r, q, address(source), address(target), cycles(n));
+    let mispredicted = n / 0x10_0000_0000 % 2 == 1;
+    let other = with_addresses(
+        e,
+        r,
+        q,
+        address(source),
+        address(target),
+        cycles(n),
+        mispredicted,
+    );
     let a = step_in_place(ctrsource, ctrtarget, ctrdata, r, e);
     let b = step(s, other);
     let same = a.number == b.number && a.value == b.value;
@@ -208,6 +219,8 @@ fn run_shared(
     tally.addresses_differed = wrapping_add_u64(tally.addresses_differed, differed);
     let other_cycles = flag(cycles_of(e) != cycles_of(other));
     tally.cycles_differed = wrapping_add_u64(tally.cycles_differed, other_cycles);
+    let other_flag = flag(is_mispredicted(e) != is_mispredicted(other));
+    tally.flags_differed = wrapping_add_u64(tally.flags_differed, other_flag);
     let registers = a.registers;
     let state = b.state;
     Pair {
@@ -312,6 +325,7 @@ fn run_pairs() -> Tally {
         words_struck: 0,
         addresses_differed: 0,
         cycles_differed: 0,
+        flags_differed: 0,
         events_left: 0,
         answers_unequal: 0,
         end_states_unequal: 0,
@@ -336,6 +350,7 @@ pub(crate) fn report() {
     at = put_count(&mut out, at, b"  words struck ", t.words_struck);
     at = put_count(&mut out, at, b"  addresses differed ", t.addresses_differed);
     at = put_count(&mut out, at, b"  cycles differed ", t.cycles_differed);
+    at = put_count(&mut out, at, b"  flags differed ", t.flags_differed);
     at = put_count(&mut out, at, b"  events left ", t.events_left);
     at = put_count(&mut out, at, b"  answers unequal ", t.answers_unequal);
     at = put_count(&mut out, at, b"  end states unequal ", t.end_states_unequal);

@@ -15,6 +15,12 @@ use crate::edges::CELLS;
 use crate::edges::cell;
 use crate::edges::put_edges;
 use crate::events::is_transfer;
+use crate::mispredictions::Before;
+use crate::mispredictions::Mispredictions;
+use crate::mispredictions::no_mispredictions;
+use crate::mispredictions::put_mispredictions;
+use crate::mispredictions::read_before;
+use crate::mispredictions::with_flags;
 use libc::STDOUT_FILENO;
 use machine::Buffer;
 use machine::Event;
@@ -45,6 +51,7 @@ struct Tally {
     edges: [u64; CELLS],
     depths: Depths,
     counts: Counts,
+    mispredictions: Mispredictions,
     answers: u64,
     states: u64,
 }
@@ -138,6 +145,25 @@ fn with_counts(
     next
 }
 
+// What MISP met, likewise; given the entries before it.
+fn with_mispredictions(
+    t: Tally,
+    good: bool,
+    e: Event,
+    r: Registers,
+    old: Before,
+    number: u64,
+    value: u64,
+) -> Tally {
+    let mut next = t;
+    if good && number == 0 {
+        let m = t.mispredictions;
+        let mispredictions = with_flags(m, e, r, old, value);
+        next.mispredictions = mispredictions;
+    }
+    next
+}
+
 fn started(t: Tally, random: u64, good: bool) -> Tally {
     let mut next = t;
     next.random = random;
@@ -156,18 +182,20 @@ fn run_event(
     let m = r.mode;
     let drawn = draw_event(l.tally.random, m);
     let e = drawn.event;
+    let b = r.buffer;
+    let old = read_before(ctrtarget, b);
     let a = step_in_place(ctrsource, ctrtarget, ctrdata, r, e);
     let registers = a.registers;
     let transfer = is_transfer(e);
     let mut tally = tallied(l.tally, transfer, a.number, a.value);
     let mode = registers.mode;
     tally = with_edge(tally, r, mode);
-    let before = r.buffer;
     let after = registers.buffer;
     let value = transfer_value(transfer, a.number, a.value);
-    let deepest = larger(l.deepest, before.code);
-    tally = with_depths(tally, l.good, ctrsource, before, after, value, deepest);
+    let deepest = larger(l.deepest, b.code);
+    tally = with_depths(tally, l.good, ctrsource, b, after, value, deepest);
     tally = with_counts(tally, l.good, e, ctrdata, r, registers, a.number, a.value);
+    tally = with_mispredictions(tally, l.good, e, r, old, a.number, a.value);
     tally.random = drawn.random;
     tally.frozen = wrapping_add_u64(tally.frozen, flag(r.buffer.frozen));
     tally.states = digest_state(tally.states, registers, ctrsource, ctrtarget, ctrdata);
@@ -212,6 +240,7 @@ fn run_lists() -> Tally {
         edges: [0; CELLS],
         depths: no_depths(),
         counts: no_counts(),
+        mispredictions: no_mispredictions(),
         answers: 0,
         states: 0,
     };
@@ -227,17 +256,19 @@ fn put_answers(out: &mut [u8], at: usize, numbers: [u64; 6], values: [u64; 5]) -
     put_counts(out, next, b"  value ", &values)
 }
 
-// The edges, the depths and the counts that were met.
+// The edges, the depths, the counts and the flags that were met.
 fn put_met(
     out: &mut [u8],
     at: usize,
     edges: [u64; CELLS],
     depths: Depths,
     counts: Counts,
+    mispredictions: Mispredictions,
 ) -> usize {
     let mut next = put_edges(out, at, edges);
     next = put_depths(out, next, depths);
-    put_counts_met(out, next, counts)
+    next = put_counts_met(out, next, counts);
+    put_mispredictions(out, next, mispredictions)
 }
 
 pub(crate) fn report() {
@@ -253,8 +284,9 @@ pub(crate) fn report() {
     let edges = t.edges;
     let depths = t.depths;
     let counts = t.counts;
+    let mispredictions = t.mispredictions;
     at = put_answers(&mut out, at, numbers, values);
-    at = put_met(&mut out, at, edges, depths, counts);
+    at = put_met(&mut out, at, edges, depths, counts, mispredictions);
     at = put_word(&mut out, at, b"  answers 0x", t.answers);
     at = put_word(&mut out, at, b"  states 0x", t.states);
     io::write_all(STDOUT_FILENO, text::before(&out, at));

@@ -147,13 +147,23 @@ fn put_cycles_if_valid(out: &mut [u8], at: usize, ctrdata: u64) -> usize {
     }
 }
 
-// A line of the history: logical index, addresses, type and count.
+// That the transfer was mispredicted, where MISP says so.
+fn put_misp(out: &mut [u8], at: usize, ctrtarget: u64) -> usize {
+    if bits::bit(ctrtarget, 0) {
+        text::put(out, at, b" mispredicted")
+    } else {
+        at
+    }
+}
+
+// A line of the history: logical index, addresses, type, count and misprediction.
 fn put_transfer(out: &mut [u8], at: usize, i: u64, e: Entry) -> usize {
     let mut next = put_index(out, at, i);
     next = put_addresses(out, next, e);
     next = text::put_byte(out, next, b' ');
     next = put_type(out, next, bits::low(e.ctrdata, 4));
     next = put_cycles_if_valid(out, next, e.ctrdata);
+    next = put_misp(out, next, e.ctrtarget);
     end_line(out, next)
 }
 

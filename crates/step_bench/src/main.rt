@@ -49,6 +49,7 @@ fn call(i: u64) -> RetiredWord {
         pc: i << 2,
         target: i << 3,
         taken: false,
+        mispredicted: false,
         cycles: 0,
     }
 }

@@ -1,16 +1,13 @@
 -- What follows of a row that is well-formed. Assumes nothing.
 use Prim.Native.Nat.{ℕ, _^_, _<_}
 use mathlib.Core.Path.{_≡_}
-use mathlib.Core.Bool.{Bool, true, false, false≢true, _&&_}
+use mathlib.Core.Bool.{true}
 use lib.Dec.{ltb}
 use borrow.Author.Tests.{ltb-true}
-use Rattle.trace.specs.Rows.{headIn, isRetiredRow}
-
-second : (a b : Bool) → (a && b) ≡ true → b ≡ true
-second true b h = h
-second false b h = absurd (false≢true h)
+use Rattle.bits.proofs.Cases.{both}
+use Rattle.trace.specs.Rows.{fitsRetired, isRetiredRow}
 
 -- its instruction is below 2^32
 pub word-lt : (w word : ℕ) → isRetiredRow w word ≡ true → word < 2 ^ 32
 unfolding isRetiredRow
-word-lt w word h = ltb-true _ _ (second (ltb (headIn w) (2 ^ 9)) (ltb word (2 ^ 32)) h)
+word-lt w word h = ltb-true _ _ (both (fitsRetired w) (ltb word (2 ^ 32)) h .1)

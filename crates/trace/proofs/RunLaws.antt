@@ -8,9 +8,8 @@ use native.Mathlib.Decide.{le-ind}
 use native.Mathlib.Omega.{arith}
 use lib.Dec.{eqb, ltb}
 use lib.ListN.{length}
-use borrow.Author.Tests.{eqb-false, eq-eqb, ne-eqb, lt-ltb, le-ltb}
-use mathlib.Core.Logic.{inl, inr}
-use Rattle.bits.proofs.Cases.{Known, known}
+use borrow.Author.Tests.{eq-eqb, ne-eqb, lt-ltb, le-ltb}
+use Rattle.bits.proofs.Cases.{both}
 use Rattle.bits.specs.Choice.{if_then_else_}
 use Rattle.machine.specs.declared.Event.{Event}
 use Rattle.machine.specs.declared.Event.the-variants.{Retired}
@@ -22,7 +21,7 @@ use Rattle.recorder.specs.declared.Answered.{Answered}
 use Rattle.recorder.specs.declared.State.{State}
 use Rattle.machine.specs.Good.{goodOf}
 use Rattle.recorder.proofs.Laws.{whole-kept, good-kept, found-step}
-use Rattle.trace.specs.Rows.{headIn, isRetiredRow, retiredRow, rowBy, rowOf}
+use Rattle.trace.specs.Rows.{fitsRetired, isRetiredRow, retiredRow, rowBy, rowOf}
 use Rattle.trace.specs.Runs.{rowAt, isRetiredHead, isWellFormed, leading, Run, answered, next, runOf, RowRun, rowRunOf, Replay, unrun, ranOf, replayOf, rowRan, wellFormedAnswer, malformedAnswer}
 use Rattle.trace.specs.declared.Row.{Row}
 use Rattle.trace.specs.declared.Row.the-variants.{WellFormed, Malformed}
@@ -55,38 +54,26 @@ unfolding rowRunOf rowBy
 no-kind v r kind w a b c q h0 h1 h2 h3 h4 h5 i =
     rw (ne-eqb kind 0 h0, ne-eqb kind 1 h1, ne-eqb kind 2 h2, ne-eqb kind 3 h3, ne-eqb kind 4 h4, ne-eqb kind 5 h5, i)
 
--- a row of a retired word, by the low half of its word 0, in which the kind is
-low-byte : (w h : ℕ) → headIn w ≡ h → w % 2 ^ 8 ≡ h % 2 ^ 8
-low-byte w h e = omega (arith, e)
-
+-- a row whose word 0 is that of a retired word
 head-row : (w a b c : ℕ) → isRetiredHead w ≡ true → rowOf w a b c ≡ retiredRow w a b c
 unfolding isRetiredHead rowOf rowBy
-head-row w a b c h = go (known (headIn w) 0) (known (headIn w) 0x100)
-  where
-    go : Known (headIn w) 0 → Known (headIn w) 0x100 → rowOf w a b c ≡ retiredRow w a b c
-    go (inl e) k = rw (low-byte w 0 e)
-    go (inr e) (inl k) = rw (low-byte w 0x100 k)
-    go (inr e) (inr k) = absurd (false≢true (rw (e, k) at h))
+head-row w a b c h = rw (both (eqb (w % 2 ^ 8) 0) (fitsRetired w) h .0)
 
 pub retired-first : (s : State) (t : Bool) (w a b c : ℕ) (z : RowRun)
     → t ≡ isRetiredHead w → t ≡ true → rowRunOf s (retiredRow w a b c) ≡ z → rowRunOf s (rowOf w a b c) ≡ z
 retired-first s t w a b c z u h p = rw (head-row w a b c (sym u ∙ h)) p
 
 -- of kind 0 there is no other that is well-formed
-large : (w : ℕ) → w % 2 ^ 8 ≡ 0 → isRetiredHead w ≡ false → 2 ^ 9 ≤ headIn w
-unfolding isRetiredHead
-large w k h = go (known (headIn w) 0) (known (headIn w) 0x100)
-  where
-    go : Known (headIn w) 0 → Known (headIn w) 0x100 → 2 ^ 9 ≤ headIn w
-    go (inl e) j = absurd (false≢true (sym (rw e at h)))
-    go (inr e) (inl j) = absurd (false≢true (sym (rw j at h)))
-    go (inr e) (inr j) = omega (arith, k, eqb-false (headIn w) 0 e, eqb-false (headIn w) 0x100 j)
+not-second : (a b : Bool) → (a && b) ≡ false → a ≡ true → b ≡ false
+not-second true b h p = h
+not-second false b h p = absurd (false≢true p)
 
 pub not-retired : (v : Entries) (r : Registers) (kind w a b c : ℕ) (q : RowRan)
     → kind ≡ 0 → kind ≡ w % 2 ^ 8 → isRetiredHead w ≡ false → q ≡ malformedAnswer r
     → rowRunOf (stateOf r v) (rowBy kind w a b c) ≡ rowRan q v
-unfolding rowRunOf rowBy retiredRow isRetiredRow
-not-retired v r kind w a b c q z k h i = rw (z, le-ltb (headIn w) (2 ^ 9) (large w (sym k ∙ z) h), i)
+unfolding rowRunOf rowBy retiredRow isRetiredRow isRetiredHead
+not-retired v r kind w a b c q z k h i =
+    rw (z, not-second (eqb (w % 2 ^ 8) 0) (fitsRetired w) h (eq-eqb (w % 2 ^ 8) 0 (sym k ∙ z)), i)
 
 -- a row by the kind in its lowest byte
 pub by-kind : (s : State) (kind w a b c : ℕ) (z : RowRun) → kind ≡ w % 2 ^ 8 → rowRunOf s (rowBy kind w a b c) ≡ z → rowRunOf s (rowOf w a b c) ≡ z

@@ -23,20 +23,31 @@ cyclesIn w = w / 2 ^ 32
 abbrev pub headIn : ℕ → ℕ
 headIn w = w % 2 ^ 32
 
--- such a word 0 has a mode code, 0 to 4, in bits 10..8, and no bit from a limit up to bit 31
+-- word 0 of a trap or return has a mode code, 0 to 4, in bits 10..8, and no bit from a limit up to bit 31
 unfoldable pub hasMode : ℕ → ℕ → Bool
 hasMode w limit = ltb (headIn w) limit && ltb (fieldAt w 8 3) 5
 
--- kind 0, a retired word: taken in bit 8; instruction below 2^32, pc, target
+-- kind 0, a retired word: taken in bit 8, mispredicted in bit 9, and no other bit up to bit 31; instruction below 2^32, pc, target
+abbrev pub fitsRetired : ℕ → Bool
+fitsRetired w = ltb (headIn w) (2 ^ 10)
+
 unfoldable pub isRetiredRow : ℕ → ℕ → Bool
-isRetiredRow w word = ltb (headIn w) (2 ^ 9) && ltb word (2 ^ 32)
+isRetiredRow w word = fitsRetired w && ltb word (2 ^ 32)
 
 abbrev pub retiredIn : ℕ → ℕ → ℕ → ℕ → RetiredWord
-retiredIn w word pc target = record { word = word; pc = pc; target = target; taken = eqb (bitAt w 8) 1; cycles = cyclesIn w }
+retiredIn w word pc target =
+    record {
+      word = word;
+      pc = pc;
+      target = target;
+      taken = eqb (bitAt w 8) 1;
+      mispredicted = eqb (bitAt w 9) 1;
+      cycles = cyclesIn w;
+    }
 
 unfoldable pub retiredRow : ℕ → ℕ → ℕ → ℕ → Row
 retiredRow w word pc target =
-    if isRetiredRow w word then WellFormed (Retired (retiredIn w word pc target)) else Malformed (if ltb (headIn w) (2 ^ 9) then 1 else 0)
+    if isRetiredRow w word then WellFormed (Retired (retiredIn w word pc target)) else Malformed (if fitsRetired w then 1 else 0)
 
 -- kind 1, a trap: target mode in bits 10..8, interrupt in bit 11; cause, epc, handler
 unfoldable pub isTrapRow : ℕ → Bool

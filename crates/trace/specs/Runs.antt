@@ -1,7 +1,7 @@
 -- A run over the rows of a trace, by recursion on the events done: each event gets the state that the last one handed back, and its
 -- answer two words, number and value.
-use Prim.Native.Nat.{ℕ, zero, suc, _+_, _*_, _/_, _%_}
-use mathlib.Core.Bool.{Bool, true, false, _&&_, _||_}
+use Prim.Native.Nat.{ℕ, zero, suc, _+_, _*_, _/_, _%_, _^_}
+use mathlib.Core.Bool.{Bool, true, false, _&&_}
 use mathlib.Core.List.{List}
 use lib.Dec.{eqb, ltb}
 use lib.ListN.{length, getD, set}
@@ -11,7 +11,7 @@ use Rattle.recorder.specs.Steps.{stateOf, stepOf}
 use Rattle.machine.specs.declared.Registers.{Registers}
 use Rattle.recorder.specs.declared.Answered.{Answered}
 use Rattle.recorder.specs.declared.State.{State}
-use Rattle.trace.specs.Rows.{headIn, rowOf}
+use Rattle.trace.specs.Rows.{fitsRetired, rowOf}
 use Rattle.trace.specs.declared.Row.{Row}
 use Rattle.trace.specs.declared.Row.the-variants.{WellFormed, Malformed}
 use Rattle.trace.specs.declared.Replayed.{Replayed}
@@ -22,9 +22,9 @@ use Rattle.trace.specs.declared.RowRan.{RowRan}
 unfoldable pub rowAt : List ℕ → ℕ → Row
 rowAt ws i = rowOf (getD ws (4 * i) 0) (getD ws (4 * i + 1) 0) (getD ws (4 * i + 2) 0) (getD ws (4 * i + 3) 0)
 
--- word 0 of a retired word: below the cycles no bit but taken
+-- word 0 of a retired word: kind 0, and below the cycles no bit but taken and mispredicted
 unfoldable pub isRetiredHead : ℕ → Bool
-isRetiredHead w = eqb (headIn w) 0 || eqb (headIn w) 0x100
+isRetiredHead w = eqb (w % 2 ^ 8) 0 && fitsRetired w
 
 abbrev pub isWellFormed : Row → Bool
 isWellFormed (WellFormed e) = true

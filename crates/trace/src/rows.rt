@@ -19,7 +19,7 @@ use machine::TrapTo;
 
 // Word 0 of each kind is below a limit, but for the cycles that three of them have in bits 63..32: no bit is
 // set that the kind does not name.
-const RETIRED_LIMIT: u64 = 0x200;
+pub(crate) const RETIRED_LIMIT: u64 = 0x400;
 
 const TRAP_LIMIT: u64 = 0x1000;
 
@@ -37,7 +37,7 @@ fn below(x: u64, limit: u64) -> bool
     x < limit
 }
 
-fn is_zero(x: u64) -> bool
+pub(crate) fn is_zero(x: u64) -> bool
     ensures { λ b. ⌜ b ≡ eqb x 0 ⌝ }
 {
     x == 0
@@ -56,7 +56,7 @@ fn is_mode_code(w: u64) -> bool
 }
 
 // Whether the low half of word 0 is below a limit.
-fn head_below(w: u64, limit: u64) -> bool
+pub(crate) fn head_below(w: u64, limit: u64) -> bool
     ensures { λ b. ⌜ b ≡ ltb (headIn w) limit ⌝ }
 {
     below(bits::low(w, 32), limit)
@@ -91,7 +91,7 @@ fn operation_in(w: u64) -> Operation
     operation_of(bits::field64(w, 8, 2))
 }
 
-// A retired word; taken in bit 8 of word 0.
+// A retired word; taken in bit 8 of word 0, mispredicted in bit 9.
 pub(crate) fn is_retired_row(w: u64, word: u64) -> bool
     ensures { λ b. ⌜ b ≡ isRetiredRow w word ⌝ }
 {
@@ -111,6 +111,7 @@ pub(crate) fn retired_in(w: u64, word: u64, pc: u64, target: u64) -> RetiredWord
         pc,
         target,
         taken: bits::bit(w, 8),
+        mispredicted: bits::bit(w, 9),
         cycles: cycles_in(w),
     }
 }

@@ -1,6 +1,6 @@
 // A whole trace: its rows are run one after the other in place, and each answer takes two words.
 ghost use mathlib.Core.Path.{_≡_};
-ghost use mathlib.Core.Bool.{false, _||_};
+ghost use mathlib.Core.Bool.{false};
 ghost use Prim.Native.Nat.{_+_, _*_, _%_, _^_, _≤_, _<_};
 ghost use lib.Dec.{eqb};
 ghost use lib.ListN.{length};
@@ -13,14 +13,17 @@ use crate::Ran;
 use crate::Replayed;
 use crate::RowRan;
 use crate::rows::HOST_LIMIT;
+use crate::rows::RETIRED_LIMIT;
 use crate::rows::SCTRCLR_LIMIT;
 use crate::rows::access_in;
 use crate::rows::enables_in;
+use crate::rows::head_below;
 use crate::rows::is_access_row;
 use crate::rows::is_plain_row;
 use crate::rows::is_retired_row;
 use crate::rows::is_return_row;
 use crate::rows::is_trap_row;
+use crate::rows::is_zero;
 use crate::rows::retired_in;
 use crate::rows::return_in;
 use crate::rows::trap_in;
@@ -210,16 +213,20 @@ fn run_by(
     }
 }
 
-fn is_head(head: u64) -> bool
-    ensures { λ b. ⌜ b ≡ (eqb head 0 || eqb head 0x100) ⌝ }
+fn is_retired_kind(w: u64) -> bool
+    ensures { λ b. ⌜ b ≡ eqb (w % 2 ^ 8) 0 ⌝ }
 {
-    head == 0 || head == 0x100
+    is_zero(bits::low(w, 8))
 }
 
 fn is_retired_head(w: u64) -> bool
     ensures { λ b. ⌜ b ≡ isRetiredHead w ⌝ }
 {
-    is_head(bits::low(w, 32))
+    if is_retired_kind(w) {
+        head_below(w, RETIRED_LIMIT)
+    } else {
+        false
+    }
 }
 
 // Most rows are retired words: they are looked for first, and what number 5 is about is not looked at again for

@@ -45,7 +45,11 @@ const OTHER: [u64; 3] = [0, 1, 0xFFFF_FFFF_FFFF_FFFF];
 
 fn digest_retired(h: u64, w: RetiredWord) -> u64 {
     let d = digest(digest(h, w.word as u64), w.pc);
-    digest(digest(digest(d, w.target), flag(w.taken)), w.cycles as u64)
+    let f = digest(
+        digest(digest(d, w.target), flag(w.taken)),
+        flag(w.mispredicted),
+    );
+    digest(f, w.cycles as u64)
 }
 
 fn digest_trap(h: u64, t: TrapTo) -> u64 {

@@ -1,5 +1,6 @@
 -- What a record, a pop and a swap make of an entry and of WRPTR.
 use Prim.Native.Nat.{ℕ, _+_, _*_, _/_, _%_}
+use mathlib.Core.Bool.{Bool}
 use Rattle.bits.specs.Choice.{if_then_else_}
 use Rattle.machine.specs.Modes.{onOf}
 use Rattle.machine.specs.Regs.{withWrptr}
@@ -8,9 +9,10 @@ use Rattle.machine.specs.declared.Mode.{Mode}
 use Rattle.machine.specs.declared.Registers.{Registers}
 use Rattle.machine.specs.declared.Entry.{Entry}
 
--- a record: the source pc with bit 0 set (V), the target pc with bit 0 clear, and the type
-unfoldable pub entryFor : ℕ → ℕ → ℕ → Entry
-entryFor pc target n = record { ctrsource = pc / 2 * 2 + 1; ctrtarget = target / 2 * 2; ctrdata = n }
+-- a record: the source pc with bit 0 set (V), the target pc with MISP in bit 0, whatever bit 0 of the two pcs is, and the type
+unfoldable pub entryFor : ℕ → ℕ → Bool → ℕ → Entry
+entryFor pc target misp n =
+    record { ctrsource = pc / 2 * 2 + 1; ctrtarget = target / 2 * 2 + (if misp then 1 else 0); ctrdata = n }
 
 -- the pc of one side of a trap or return: 0 where the mode of that side is off
 unfoldable pub sidePc : Registers → Mode → ℕ → ℕ

@@ -1,6 +1,6 @@
 -- Retired words, traps and trap returns, from registers free of number 5, given the entry in focus.
 use Prim.Native.Nat.{ℕ, _%_}
-use mathlib.Core.Bool.{Bool}
+use mathlib.Core.Bool.{Bool, false}
 use Rattle.bits.specs.Choice.{if_then_else_}
 use Rattle.machine.specs.Answers.{valueOf, refused, accepted, acceptedPut}
 use Rattle.machine.specs.Regs.{withMode, withFrozen, withCycles}
@@ -29,7 +29,7 @@ outcomeFocus b Pop = physicalOf (b .code) (b .wrptr) 0
 outcomeFocus b Swap = physicalOf (b .code) (b .wrptr) 0
 outcomeFocus b Freeze = b .wrptr % depthOf (b .code)
 
--- an outcome done, from registers with the counter as the event finds it, with the record e that it would put; a record codes the
+-- an outcome done, from registers in which the event's own cycles have counted, with the record e that it would put; a record codes the
 -- counter and starts it again. RASEMU has zeroed the counter, so a record under it codes 0, and of a swap there is nothing to code
 unfoldable pub doneOf : Registers → Entry → Entry → Bool → Outcome → Decision
 doneOf r old e rasemu Nothing = accepted r (valueOf Nothing)
@@ -43,15 +43,15 @@ doneOf r old e rasemu Freeze = accepted (withFrozen r) (valueOf Freeze)
 unfoldable pub retiredOf : Registers → Entry → ℕ → RetiredWord → Decision
 retiredOf r old n w =
     let rasemu = rasemuOf r (r .mode) (r .mode) in
-    doneOf (tallied r rasemu (w .cycles)) old (entryFor (w .pc) (w .target) n) rasemu (retiredOutcome r n)
+    doneOf (tallied r rasemu (w .cycles)) old (entryFor (w .pc) (w .target) (w .mispredicted) n) rasemu (retiredOutcome r n)
 
 -- a decision with the mode changed: every possible trap or return changes it, recorded or not
 abbrev pub inMode : Decision → Mode → Decision
 inMode d m = record { number = d .number; value = d .value; registers = withMode (d .registers) m; effect = d .effect }
 
--- the record of a trap or return; an address whose side is off is 0
+-- the record of a trap or return; an address whose side is off is 0, and MISP is 0
 unfoldable pub crossing : Registers → Mode → ℕ → ℕ → ℕ → Entry
-crossing r target source-pc target-pc n = entryFor (sidePc r (r .mode) source-pc) (sidePc r target target-pc) n
+crossing r target source-pc target-pc n = entryFor (sidePc r (r .mode) source-pc) (sidePc r target target-pc) false n
 
 -- a possible trap or return to a mode, with its cycles: the outcome done with the record e, and the mode changed
 unfoldable pub crossedOf : Registers → Entry → Mode → ℕ → Entry → Outcome → Decision

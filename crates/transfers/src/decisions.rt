@@ -123,6 +123,7 @@ fn crossed(r: Registers, target: Mode, source_pc: u64, target_pc: u64, number: u
     entry_for(
         side_pc(r, m, source_pc),
         side_pc(r, target, target_pc),
+        false,
         number,
     )
 }

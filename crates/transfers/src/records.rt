@@ -10,12 +10,12 @@ use machine::modes::is_on;
 use machine::regs::with_wrptr;
 
 // The entry of a record.
-pub fn entry_for(pc: u64, target: u64, number: u64) -> Entry
-    ensures { λ e. ⌜ e ≡ entryFor pc target number ⌝ }
+pub fn entry_for(pc: u64, target: u64, misp: bool, number: u64) -> Entry
+    ensures { λ e. ⌜ e ≡ entryFor pc target misp number ⌝ }
 {
     Entry {
         ctrsource: bits::set_bit0(pc),
-        ctrtarget: bits::clear_bit0(target),
+        ctrtarget: bits::with_bit0(target, misp),
         ctrdata: number,
     }
 }

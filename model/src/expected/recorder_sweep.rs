@@ -6,6 +6,7 @@ mod counts;
 mod depths;
 mod draw;
 mod edges;
+mod mispredictions;
 mod pairs;
 mod random_run;
 mod random_trace;

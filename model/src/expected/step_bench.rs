@@ -44,6 +44,7 @@ fn call(i: u64) -> Event {
         pc: 4 * i,
         target: 8 * i,
         taken: false,
+        mispredicted: false,
         cycles: 0,
     })
 }

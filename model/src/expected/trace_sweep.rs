@@ -78,6 +78,7 @@ fn words(event: Event) -> Vec<u64> {
             e.pc,
             e.target,
             e.taken.into(),
+            e.mispredicted.into(),
             e.cycles.into(),
         ],
         Event::Trap(e) => vec![
@@ -120,14 +121,14 @@ mod tests {
 
     /// Of the 72 rows under a head: all of a trap's, a return's nine with word 1 0, an access's
     /// nine with word 3 0 (three numbers, three operands), a retired word's 45 (five words), and
-    /// one of SCTRCLR's and the host's. Two lower halves are retired words, ten traps, five returns,
+    /// one of SCTRCLR's and the host's. Four lower halves are retired words, ten traps, five returns,
     /// four accesses, one SCTRCLR and four the host's; the first three kinds have them with no
     /// cycles, with the most, and one of them with each single bit of the 32.
     #[test]
     fn each_kind_and_each_broken_word_occurs() {
         let text = trace_sweep();
         let kinds = [
-            (2 * 2 + 32) * 45,
+            (2 * 4 + 32) * 45,
             (2 * 10 + 32) * 72,
             (2 * 5 + 32) * 9,
             4 * 9,

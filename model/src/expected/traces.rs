@@ -130,17 +130,17 @@ fn rows(sample: &[u8]) -> impl Iterator<Item = Row> + '_ {
 }
 
 /// Every operation, every setting of the host's, every mode as the target of a return and of both
-/// kinds of trap, each branch taken and not, and SCTRCLR: each so that the answers or the history
-/// tell it from the others.
+/// kinds of trap, a branch taken and not, mispredicted and not, and SCTRCLR: each so that the answers or
+/// the history tell it from the others.
 fn kinds() -> Vec<u8> {
     let mut rows = vec![
         access(Operation::Write, SISELECT, 0x20F),
         access(Operation::Set, SISELECT, 0x0F0),
         access(Operation::Clear, SISELECT, 0x00C),
         access(Operation::Read, SISELECT, 0),
-        retired(true, 0x9000),
+        retired(true, false, 0x9000),
         encode(Event::Sctrclr),
-        retired(true, 0x9100),
+        retired(true, true, 0x9100),
     ];
     for (mstateen0_ctr, hstateen0_ctr) in
         [(false, false), (false, true), (true, false), (true, true)]
@@ -172,16 +172,22 @@ fn kinds() -> Vec<u8> {
             rows.push(trap(Mode::M, true, pc + 0x80));
         }
     }
-    rows.extend([retired(false, 0xC000), retired(true, 0xC100)]);
+    rows.extend([
+        retired(false, false, 0xC000),
+        retired(true, false, 0xC100),
+        retired(false, true, 0xC200),
+        retired(true, true, 0xC300),
+    ]);
     [setup(ALL_BRANCHES), bytes_of(rows)].concat()
 }
 
-fn retired(taken: bool, pc: u64) -> Row {
+fn retired(taken: bool, mispredicted: bool, pc: u64) -> Row {
     encode(Event::Retired(Retired {
         word: 0x0000_0063,
         pc,
         target: pc + 8,
         taken,
+        mispredicted,
         cycles: 5,
     }))
 }
@@ -364,7 +370,7 @@ mod tests {
                 assert_eq!(is_told, !are_alike, "{first:#x} and {second:#x}");
             }
         }
-        assert_eq!(heads.len(), 2 + 10 + 5 + 4 + 1 + 4);
+        assert_eq!(heads.len(), 4 + 10 + 5 + 4 + 1 + 4);
     }
 
     fn head(row: &[u8]) -> u16 {

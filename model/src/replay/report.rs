@@ -45,8 +45,9 @@ pub const TYPES: [&str; 16] = [
     "other direct jump",
 ];
 
-/// Bit 0 of ctrsource; that of ctrtarget is not shown either.
+// Bit 0 of ctrsource and of ctrtarget; addresses are shown without them.
 const V: u64 = 1;
+const MISP: u64 = 1;
 
 /// The TYPE field of ctrdata.
 const TYPE: u64 = 0xF;
@@ -138,12 +139,17 @@ fn valid_entries(machine: &Machine) -> String {
         .collect()
 }
 
-/// The count of cycles is shown only if it is valid.
+/// The count of cycles is shown only if it is valid. Of MISP there is a word if it is 1.
 fn transfer(index: u64, entry: Entry) -> String {
-    let (source, target) = (entry.ctrsource & !V, entry.ctrtarget & !1);
+    let (source, target) = (entry.ctrsource & !V, entry.ctrtarget & !MISP);
     let name = TYPES[(entry.ctrdata & TYPE) as usize];
     let count = valid_count(entry.ctrdata).map_or(String::new(), |n| format!(" cycles {n}"));
-    format!("{index} {source:#x} -> {target:#x} {name}{count}\n")
+    let misp = if entry.ctrtarget & MISP == MISP {
+        " mispredicted"
+    } else {
+        ""
+    };
+    format!("{index} {source:#x} -> {target:#x} {name}{count}{misp}\n")
 }
 
 fn physical_entries(entries: &[Entry]) -> String {
@@ -169,6 +175,7 @@ mod tests {
         pc: 0x1000,
         target: 0x2000,
         taken: false,
+        mispredicted: false,
         cycles: 0x1234,
     });
 
@@ -304,7 +311,7 @@ ccv 0x1
     fn valid_entries_are_shown_in_logical_order() {
         assert_eq!(
             valid_entries(&machine_with_entries()),
-            "0 0x1000 -> 0x2002 indirect call cycles 0\n15 0x0 -> 0x0 reserved\n"
+            "0 0x1000 -> 0x2002 indirect call cycles 0 mispredicted\n15 0x0 -> 0x0 reserved\n"
         );
     }
 
@@ -315,8 +322,8 @@ ccv 0x1
         machine.registers.depth_code = 4;
         assert_eq!(
             valid_entries(&machine),
-            "0 0x1000 -> 0x2002 indirect call cycles 0\n241 0x5000 -> 0x6000 exception\n\
-             255 0x0 -> 0x0 reserved\n"
+            "0 0x1000 -> 0x2002 indirect call cycles 0 mispredicted\n\
+             241 0x5000 -> 0x6000 exception\n255 0x0 -> 0x0 reserved\n"
         );
     }
 
@@ -329,6 +336,7 @@ ccv 0x1
             pc: 0x2000,
             target: 0x2004,
             taken: false,
+            mispredicted: false,
             cycles: 0x56,
         });
         let report = report_of(&[write(0x34E, 4), CALL, CALL, branch]);
@@ -359,6 +367,86 @@ ccv 0x1
             let expected = format!("7 0x0 -> 0x0 direct call cycles {count}\n");
             assert_eq!(transfer(7, entry), expected);
         }
+    }
+
+    /// After the count if there is one, and beside addresses of which bit 0 is clear.
+    #[test]
+    fn misp_is_the_last_word_of_a_line() {
+        for (ctrtarget, ctrdata, expected) in [
+            (0x2000, 0x0007_0009, "3 0x1000 -> 0x2000 direct call\n"),
+            (
+                0x2001,
+                0x0007_0009,
+                "3 0x1000 -> 0x2000 direct call mispredicted\n",
+            ),
+            (
+                0x2000,
+                0x0007_8009,
+                "3 0x1000 -> 0x2000 direct call cycles 7\n",
+            ),
+            (
+                0x2001,
+                0x0007_8009,
+                "3 0x1000 -> 0x2000 direct call cycles 7 mispredicted\n",
+            ),
+            (0x0, 0x1, "3 0x1000 -> 0x0 exception\n"),
+            (0x1, 0x1, "3 0x1000 -> 0x0 exception mispredicted\n"),
+            (
+                u64::MAX,
+                0xFFFF_FFFF_FFFF_7FFF,
+                "3 0x1000 -> 0xfffffffffffffffe other direct jump mispredicted\n",
+            ),
+        ] {
+            let entry = Entry {
+                ctrsource: 0x1001,
+                ctrtarget,
+                ctrdata,
+            };
+            assert_eq!(transfer(3, entry), expected);
+        }
+    }
+
+    /// Two mispredicted calls and one that was not, newest first; then MISP of the newest is set and
+    /// that of the one before is cleared by hand.
+    #[test]
+    fn mispredicted_calls_are_shown_as_such() {
+        let call = |target, mispredicted| {
+            Event::Retired(Retired {
+                word: 0x0000_00ef,
+                pc: 0x1000,
+                target,
+                taken: true,
+                mispredicted,
+                cycles: 9,
+            })
+        };
+        let calls = [
+            write(0x34E, 4),
+            call(0x2001, true),
+            call(0x3000, true),
+            call(0x4001, false),
+        ];
+        let expected = "\
+0 0x1000 -> 0x4000 direct call cycles 9
+1 0x1000 -> 0x3000 direct call cycles 9 mispredicted
+2 0x1000 -> 0x2000 direct call mispredicted
+";
+        let report = report_of(&calls);
+        assert!(report.ends_with(expected), "{report}");
+
+        let writes = [
+            write(0x150, 0x200),
+            write(0x152, 0x4001),
+            write(0x250, 0x201),
+            write(0x252, 0x3000),
+        ];
+        let expected = "\
+0 0x1000 -> 0x4000 direct call cycles 9 mispredicted
+1 0x1000 -> 0x3000 direct call cycles 9
+2 0x1000 -> 0x2000 direct call mispredicted
+";
+        let report = report_of(&[&calls[..], &writes].concat());
+        assert!(report.ends_with(expected), "{report}");
     }
 
     #[test]

@@ -23,8 +23,10 @@ const FIELDS: u32 = 8;
 /// Where, among those fields, the cycles of a retired word, a trap or a return start.
 const CYCLES: u32 = 32 - FIELDS;
 
-// Among those fields, the codes of modes and operations are lowest. A trap has its interrupt bit
-// above the code, and of the host's bits that of hstateen0 is the second.
+// Among those fields, the codes of modes and operations are lowest, and so is whether a retired
+// word is taken; whether it was mispredicted comes next. A trap has its interrupt bit above the
+// code, and of the host's bits that of hstateen0 is the second.
+const MISPREDICTED: u32 = 1;
 const MODE_CODE: u64 = 7;
 const INTERRUPT: u32 = 3;
 const HSTATEEN0: u32 = 1;
@@ -51,12 +53,13 @@ pub fn decode([head, w1, w2, w3]: Row) -> Result<Event, BrokenWord> {
 
 fn retired(fields: u64, word: u64, pc: u64, target: u64) -> Result<Event, BrokenWord> {
     let (fields, cycles) = split_cycles(fields);
-    require(0, fields < 2)?;
+    require(0, fields < 2 << MISPREDICTED)?;
     Ok(Event::Retired(Retired {
         word: u32::try_from(word).map_err(|_| 1_usize)?,
         pc,
         target,
         taken: bit(fields, 0),
+        mispredicted: bit(fields, MISPREDICTED),
         cycles,
     }))
 }
@@ -150,12 +153,16 @@ fn by_code<T>(things: &[T], code: u64) -> Result<&T, BrokenWord> {
 /// The row of an event; it is malformed if the event has a CSR number that there isn't.
 pub fn encode(event: Event) -> Row {
     match event {
-        Event::Retired(retired) => [
-            head(RETIRED, with_cycles(retired.taken.into(), retired.cycles)),
-            retired.word.into(),
-            retired.pc,
-            retired.target,
-        ],
+        Event::Retired(retired) => {
+            let mispredicted = u64::from(retired.mispredicted) << MISPREDICTED;
+            let fields = u64::from(retired.taken) | mispredicted;
+            [
+                head(RETIRED, with_cycles(fields, retired.cycles)),
+                retired.word.into(),
+                retired.pc,
+                retired.target,
+            ]
+        }
         Event::Trap(trap) => {
             let fields = trap.target_mode as u64 | u64::from(trap.is_interrupt) << INTERRUPT;
             [

@@ -217,7 +217,7 @@ impl Recorder {
         let entry = &mut self.entries[self.physical(logical)];
         let (word, mask) = match part {
             Part::Source => (&mut entry.source, !0),
-            Part::Target => (&mut entry.target, !1),
+            Part::Target => (&mut entry.target, !0),
             Part::Data => (&mut entry.data, CTRDATA_MASK),
             Part::Zero => return Ok(0),
         };

@@ -34,6 +34,9 @@ const LIVE: u32 = 1 << 16;
 /// Bit 0 of ctrsource.
 pub const V: u64 = 1;
 
+/// Bit 0 of ctrtarget.
+pub const MISP: u64 = 1;
+
 /// The number of physical entries.
 pub const ENTRIES: usize = 256;
 
@@ -173,19 +176,28 @@ impl Recorder {
     }
 
     #[inline(always)]
-    pub fn retire(&mut self, word: u32, taken: u32, pc: u64, target: u64, cycles: u64) -> Value {
+    pub fn retire(
+        &mut self,
+        word: u32,
+        taken: u32,
+        misp: u64,
+        pc: u64,
+        target: u64,
+        cycles: u64,
+    ) -> Value {
         if self.wanted == 0 {
             return Value::Nothing;
         }
         let number = transfer_type(word, taken);
         let is_wanted = self.wanted >> number & 1 == 1;
         self.count(self.is_emulating, cycles);
+        let ctrtarget = target & !MISP | misp;
         if !is_wanted {
             Value::Nothing
         } else if self.is_emulating {
-            self.emulate(number, pc, target)
+            self.emulate(number, pc, ctrtarget)
         } else {
-            self.enter_with_count(number, pc, target)
+            self.enter_with_count(number, pc, ctrtarget)
         }
     }
 
@@ -206,7 +218,7 @@ impl Recorder {
     }
 
     /// A call, a return or a swap under RASEMU, where records have no count.
-    fn emulate(&mut self, number: u32, pc: u64, target: u64) -> Value {
+    fn emulate(&mut self, number: u32, pc: u64, ctrtarget: u64) -> Value {
         let newest = self.physical(0);
         match number {
             RETURN => {
@@ -215,25 +227,25 @@ impl Recorder {
                 Value::Popped
             }
             SWAP => {
-                self.entries[newest] = record(number.into(), pc, target);
+                self.entries[newest] = record(number.into(), pc, ctrtarget);
                 Value::Swapped
             }
-            _ => self.enter(number.into(), pc, target),
+            _ => self.enter(number.into(), pc, ctrtarget),
         }
     }
 
     /// An ordinary record has the count since the last restart, and the next one that since this.
     #[inline(always)]
-    fn enter_with_count(&mut self, number: u32, pc: u64, target: u64) -> Value {
+    fn enter_with_count(&mut self, number: u32, pc: u64, ctrtarget: u64) -> Value {
         let data = u64::from(number) | coded(self.counter, self.ccv);
         self.counter = 0;
         self.ccv = true;
-        self.enter(data, pc, target)
+        self.enter(data, pc, ctrtarget)
     }
 
     #[inline(always)]
-    fn enter(&mut self, data: u64, pc: u64, target: u64) -> Value {
-        self.entries[self.wrptr % ENTRIES] = record(data, pc, target);
+    fn enter(&mut self, data: u64, pc: u64, ctrtarget: u64) -> Value {
+        self.entries[self.wrptr % ENTRIES] = record(data, pc, ctrtarget);
         self.wrptr = (self.wrptr + 1) & self.last;
         Value::Recorded
     }
@@ -277,7 +289,7 @@ impl Recorder {
         }
     }
 
-    /// The address of a mode that is off is recorded as 0.
+    /// The address of a mode that is off is recorded as 0, and MISP is 0.
     #[inline(always)]
     fn record_trap(
         &mut self,
@@ -292,8 +304,8 @@ impl Recorder {
         }
         let is_inhibited = control >> (INHIBITS + number) & 1 == 1;
         match (self.is_on(self.mode), self.is_on(to)) {
-            (true, true) if !is_inhibited => self.enter_with_count(number, epc, handler),
-            (false, true) if !is_inhibited => self.enter_with_count(number, 0, handler),
+            (true, true) if !is_inhibited => self.enter_with_count(number, epc, handler & !MISP),
+            (false, true) if !is_inhibited => self.enter_with_count(number, 0, handler & !MISP),
             (true, false) if self.shows_external_trap(to) => self.enter_with_count(number, epc, 0),
             _ => Value::Nothing,
         }
@@ -321,8 +333,8 @@ impl Recorder {
         let value = if self.wanted == 0 || control & (RASEMU | TRETINH) != 0 {
             Value::Nothing
         } else {
-            let target = if self.is_on(to) { target } else { 0 };
-            self.enter_with_count(TRAP_RETURN, pc, target)
+            let ctrtarget = if self.is_on(to) { target & !MISP } else { 0 };
+            self.enter_with_count(TRAP_RETURN, pc, ctrtarget)
         };
         self.mode = to;
         self.update_wanted();
@@ -358,10 +370,10 @@ impl Recorder {
     }
 }
 
-fn record(data: u64, pc: u64, target: u64) -> Entry {
+fn record(data: u64, pc: u64, ctrtarget: u64) -> Entry {
     Entry {
         source: pc | V,
-        target: target & !1,
+        target: ctrtarget,
         data,
     }
 }

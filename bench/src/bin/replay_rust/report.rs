@@ -1,7 +1,7 @@
 //! What is printed of a trace after its answers.
 
 use super::cycles::valid_count;
-use super::recorder::{Entry, Recorder, V};
+use super::recorder::{Entry, Recorder, MISP, V};
 use super::run::Run;
 use model::replay::{NUMBERS, TYPES, VALUES};
 
@@ -59,8 +59,13 @@ fn valid_entries(recorder: &Recorder) -> String {
 
 /// The count of cycles is shown only if it is valid.
 fn transfer(index: usize, entry: Entry) -> String {
-    let (source, target) = (entry.source & !V, entry.target);
+    let (source, target) = (entry.source & !V, entry.target & !MISP);
     let name = TYPES[(entry.data & TYPE) as usize];
     let count = valid_count(entry.data).map_or(String::new(), |n| format!(" cycles {n}"));
-    format!("{index} {source:#x} -> {target:#x} {name}{count}\n")
+    let flag = if entry.target & MISP == MISP {
+        " mispredicted"
+    } else {
+        ""
+    };
+    format!("{index} {source:#x} -> {target:#x} {name}{count}{flag}\n")
 }

@@ -50,9 +50,9 @@ impl Run {
         let (low, cycles) = (head % (1 << 32), head >> 32);
         let (kind, fields) = (low % 256, low >> 8);
         // Most rows are of this kind, so it is asked for first.
-        if kind == RETIRED && fields < 2 && a >> 32 == 0 {
-            let taken = fields as u32;
-            let value = self.recorder.retire(a as u32, taken, b, c, cycles);
+        if kind == RETIRED && fields < 4 && a >> 32 == 0 {
+            let (taken, misp) = (fields as u32 % 2, fields >> 1);
+            let value = self.recorder.retire(a as u32, taken, misp, b, c, cycles);
             return Some(self.transfer(value));
         }
         match kind {

@@ -10,6 +10,7 @@ const JAL: Event = Event::Retired(Retired {
     pc: 0x1000,
     target: 0x2000,
     taken: false,
+    mispredicted: false,
     cycles: 0,
 });
 
@@ -18,6 +19,7 @@ const RETURN: Event = Event::Retired(Retired {
     pc: 0x3000,
     target: 0x1004,
     taken: false,
+    mispredicted: false,
     cycles: 0,
 });
 

@@ -204,7 +204,7 @@ impl Random {
         let (kind, c) = (k % 64, k / 64);
         let (x, y) = (address(x), address(y));
         match kind {
-            0..=29 => retired(w, x, y, c % 2 == 1, cycles(n)),
+            0..=29 => retired(w, x, y, c, cycles(n)),
             30..=37 => Event::Trap(Trap {
                 target_mode: trap_target(source, c),
                 is_interrupt: c / 16 % 2 == 1,
@@ -238,7 +238,7 @@ impl Random {
     pub(super) fn retired_word(&mut self) -> Event {
         let [w, pc, target, n] = self.draw_all();
         let (pc, target) = (address(pc), address(target));
-        retired(w, pc, target, w / 256 % 2 == 1, cycles(n))
+        retired(w, pc, target, w / 256, cycles(n))
     }
 }
 
@@ -312,8 +312,9 @@ pub(super) fn cycles(n: u64) -> u32 {
     }
 }
 
-/// One of eight words is any word.
-fn retired(w: u64, pc: u64, target: u64, taken: bool, cycles: u32) -> Event {
+/// One of eight words is any word. The two low bits of the flags are whether it is taken and whether it
+/// is mispredicted.
+fn retired(w: u64, pc: u64, target: u64, flags: u64, cycles: u32) -> Event {
     let word = match w % 8 {
         0 => (w / 8) as u32,
         _ => one_of(&WORDS, w / 8),
@@ -322,7 +323,8 @@ fn retired(w: u64, pc: u64, target: u64, taken: bool, cycles: u32) -> Event {
         word,
         pc,
         target,
-        taken,
+        taken: flags % 2 == 1,
+        mispredicted: flags / 2 % 2 == 1,
         cycles,
     })
 }

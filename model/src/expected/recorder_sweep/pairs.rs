@@ -76,6 +76,7 @@ struct Tally {
     words_struck: u32,
     addresses_differed: u32,
     cycles_differed: u32,
+    flags_differed: u32,
     events_left: u32,
     answers_unequal: u32,
     end_states_unequal: u32,
@@ -118,6 +119,7 @@ impl Tally {
             ("words struck", self.words_struck),
             ("addresses differed", self.addresses_differed),
             ("cycles differed", self.cycles_differed),
+            ("flags differed", self.flags_differed),
             ("events left", self.events_left),
             ("answers unequal", self.answers_unequal),
             ("end states unequal", self.end_states_unequal),
@@ -149,9 +151,11 @@ fn add_pair(tally: &mut Tally, random: &mut Random) {
         let event = random.event(a.mode());
         let mut other = event;
         let addresses = random.draw_all().map(address);
-        let number = cycles(random.draw());
+        let n = random.draw();
         tally.addresses_differed += replace_addresses(&mut other, addresses, &a, &b);
-        tally.cycles_differed += u32::from(replace_cycles(&mut other, number, &a, &b));
+        tally.cycles_differed += u32::from(replace_cycles(&mut other, cycles(n), &a, &b));
+        let is_mispredicted = n / (1 << 36) % 2 == 1;
+        tally.flags_differed += u32::from(replace_flag(&mut other, is_mispredicted, &a, &b));
         tally.add_answers((a.step(event), b.step(other)));
     }
     retire_words(&mut a, &mut b, random);
@@ -197,6 +201,16 @@ fn replace_cycles(event: &mut Event, number: u32, a: &Run, b: &Run) -> bool {
     a.is_off(a.mode()) && b.is_off(b.mode()) && mem::replace(cycles, number) != number
 }
 
+/// Replaces the flag of a word that is struck in both runs, and tells whether it differs now.
+fn replace_flag(event: &mut Event, is_mispredicted: bool, a: &Run, b: &Run) -> bool {
+    match event {
+        Event::Retired(retired) if a.is_off(a.mode()) && b.is_off(b.mode()) => {
+            mem::replace(&mut retired.mispredicted, is_mispredicted) != is_mispredicted
+        }
+        _ => false,
+    }
+}
+
 #[cfg(test)]
 mod tests {
     use super::*;
@@ -204,6 +218,7 @@ mod tests {
     #[test]
     fn no_pair_is_unequal() {
         let text = pairs();
+        assert!(!text.contains("differed 0\n"));
         assert!(text.contains("\n  answers unequal 0\n"));
         assert!(text.contains("\n  end states unequal 0\n"));
     }

@@ -3,6 +3,7 @@
 use super::counts::Counts;
 use super::depths::Depths;
 use super::edges::{Edges, RASEMU, TRETINH};
+use super::mispredictions::Mispredictions;
 use super::{with_answer, with_state};
 use crate::access::Answer;
 use crate::expected::random::Random;
@@ -17,8 +18,8 @@ const EVENTS: u32 = 400;
 /// How many it has from a bad state, where all events have the same answer.
 const EVENTS_IF_BAD: u32 = 40;
 
-/// How many events met FROZEN, how often each number was answered and each value, the edges, the depths and the counts that were met, and
-/// digests of answers and of the states after them.
+/// How many events met FROZEN, how often each number was answered and each value, the edges, the depths,
+/// the counts and the flags that were met, and digests of answers and of the states after them.
 #[derive(Default)]
 struct Tally {
     bad_starts: u32,
@@ -29,6 +30,7 @@ struct Tally {
     edges: Edges,
     depths: Depths,
     counts: Counts,
+    mispredictions: Mispredictions,
     answers: u64,
     states: u64,
 }
@@ -57,6 +59,7 @@ impl Tally {
         text += &self.edges.lines();
         text += &self.depths.lines();
         text += &self.counts.lines();
+        text += &self.mispredictions.lines();
         text += &format!("  answers 0x{:016x}\n", self.answers);
         text + &format!("  states 0x{:016x}\n", self.states)
     }
@@ -84,15 +87,17 @@ fn add_list(tally: &mut Tally, random: &mut Random, list: u64) {
     for _ in 0..if is_bad { EVENTS_IF_BAD } else { EVENTS } {
         let event = random.event(machine.registers.mode);
         tally.frozen += u32::from(machine.registers.frozen);
-        let before = machine.registers;
+        let before = machine.clone();
         let answer = machine.step(event);
-        tally.edges.add(&before, machine.registers.mode);
+        tally.edges.add(&before.registers, machine.registers.mode);
         if !is_bad {
             let value = (answer.number == 0 && event.is_transfer()).then_some(answer.value);
-            deepest = deepest.max(before.depth());
-            tally.depths.add(&before, &machine, value, deepest);
+            let registers = &before.registers;
+            deepest = deepest.max(registers.depth());
+            tally.depths.add(registers, &machine, value, deepest);
             if answer.number == 0 {
-                tally.counts.add(event, &before, &machine, value);
+                tally.counts.add(event, registers, &machine, value);
+                tally.mispredictions.add(event, &before, answer.value);
             }
         }
         tally.add(event, answer, &machine);
@@ -138,5 +143,6 @@ mod tests {
         let mut depths = changes.iter().flatten().chain(others);
         assert!(depths.all(|count| *count > 0), "{}", tally.lines());
         assert!(!tally.counts.has_none(), "{}", tally.lines());
+        assert!(!tally.mispredictions.has_none(), "{}", tally.lines());
     }
 }

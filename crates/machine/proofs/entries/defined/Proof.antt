@@ -6,4 +6,4 @@ use Rattle.machine.proofs.entries.defined.Tie as tie
 
 pub defined-spec : {M : Type 1} → statement M
 unfolding definedOf
-defined-spec = tie.close (tie.spec (λ c κs. tt) (λ c κs. tt) (λ c. search picks depth 9) (λ c. search picks depth 9) (λ c. search picks depth 9) (λ c. search picks depth 9))
+defined-spec = tie.close (tie.spec (λ c κs. tt) (λ c. search picks depth 9) (λ c. search picks depth 9) (λ c. search picks depth 9) (λ c. search picks depth 9))

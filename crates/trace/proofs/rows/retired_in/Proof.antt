@@ -11,4 +11,5 @@ retired-in-spec =
     (λ c. search (needs, word-lt))
     (λ c κs. tt)
     (λ c κs. tt)
+    (λ c κs. tt)
     (λ c. cc))
