@@ -21,7 +21,8 @@ test: ## prove everything and run every test: the gate
 	@cd model && $(CARGO) test --release --offline
 	@rt ci
 
-check-cli: program ## hold replay's arguments, output and complaints to the model's
+check-cli: program ## hold arguments, output and complaints of replay and classify to the model's
+	@$(call quietly,rt check classify)
 	@cd model && $(CARGO) test --release --offline --quiet --test check_cli -- --ignored
 
 examples: archive ## build and run the C and the Rust program of examples/
@@ -39,7 +40,7 @@ bench: archive program ## time the classifier, replay and single steps beside Ru
 	@cd bench && target/release/replay
 	@cd bench && target/release/steps
 
-every-word: archive ## compare with the model on all 2^32 words (some two minutes)
+every-word: archive ## compare with the model on all 2^32 words, switch off and on (some five minutes)
 	@cd bench && $(CARGO) run --release --offline --quiet --bin every_word
 
 expected: ## write the programs' expected output anew, from the model

@@ -1,4 +1,5 @@
-//! Classifiers in Rust that the proved one is timed beside. They take every branch as taken.
+//! Classifiers in Rust that the proved one is timed beside. They take every branch as taken. Those of
+//! `SWITCHED_ON` know table jumps and pop-returns, the others don't.
 
 mod before;
 mod by_halves;
@@ -36,6 +37,13 @@ pub const SMALL: [Classifier; 4] = [
 
 /// Written for speed, with a table of 64 KB.
 pub const LARGE: Classifier = classifier("halves", by_halves::classify_all);
+
+/// Written for speed, each with a table jump or a pop-return as a transfer.
+pub const SWITCHED_ON: [Classifier; 3] = [
+    classifier("match", by_match::classify_all_switched),
+    classifier("parts", by_parts::classify_all_switched),
+    classifier("halves", by_halves::classify_all_switched),
+];
 
 /// Sorts one word after the other.
 #[inline(always)]

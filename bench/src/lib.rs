@@ -6,4 +6,4 @@ pub mod classifiers;
 #[cfg(not(test))]
 mod proved;
 #[cfg(not(test))]
-pub use self::proved::{classify, classify_all};
+pub use self::proved::{classify, classify_all, length};

@@ -1,6 +1,6 @@
 //! Times the proved classifier beside classifiers in Rust, on the same words, in one run.
 
-use bench::classifiers::{Classifier, BEFORE, LARGE, SMALL};
+use bench::classifiers::{Classifier, BEFORE, LARGE, SMALL, SWITCHED_ON};
 use bench::classify_all;
 use model::classifier::transfer_type;
 use model::digest::{xorshift64, SEED};
@@ -39,13 +39,13 @@ fn mixed_words() -> Vec<u32> {
 }
 
 /// Panics if one of the answers is not the model's.
-fn check(classifier: &Classifier, words: &[u32], types: &mut [u8]) {
+fn check(classifier: &Classifier, zc: bool, words: &[u32], types: &mut [u8]) {
     let name = classifier.name;
     types.fill(u8::MAX);
     let count = (classifier.classify_all)(words, types);
     assert_eq!(count, words.len(), "{name}: how many words are sorted");
     for (&word, &number) in words.iter().zip(types.iter()) {
-        let expected = transfer_type(word, true);
+        let expected = transfer_type(word, true, zc);
         assert_eq!(number, expected, "{name}: the type of {word:#010x}");
     }
 }
@@ -72,20 +72,41 @@ fn best(classifiers: &[Classifier], words: &[u32], types: &mut [u8]) -> Vec<f64>
 }
 
 fn main() {
-    let ours = Classifier {
-        name: "ours",
-        classify_all,
-    };
-    let mut classifiers = vec![ours, BEFORE];
-    classifiers.extend(SMALL);
-    classifiers.push(LARGE);
     let words = mixed_words();
     let mut types = vec![0; WORDS];
-    for classifier in &classifiers {
-        check(classifier, &words, &mut types);
+    let mut classifiers = vec![OURS, BEFORE];
+    classifiers.extend(SMALL);
+    classifiers.push(LARGE);
+    classifiers.push(OURS_SWITCHED_ON);
+    classifiers.extend(SWITCHED_ON);
+    let switched = classifiers.len() - SWITCHED_ON.len() - 1;
+    for (index, classifier) in classifiers.iter().enumerate() {
+        check(classifier, index >= switched, &words, &mut types);
     }
     let times = best(&classifiers, &words, &mut types);
-    report(times[0], times[1], &times[2..]);
+    let (off, on) = times.split_at(switched);
+    report(off[0], off[1], &off[2..]);
+    report_switched_on(on[0], off[0], &on[1..]);
+}
+
+const OURS: Classifier = Classifier {
+    name: "ours",
+    classify_all: |words, types| classify_all(words, false, types),
+};
+
+const OURS_SWITCHED_ON: Classifier = Classifier {
+    name: "ours, switch on",
+    classify_all: |words, types| classify_all(words, true, types),
+};
+
+/// `rust` has the times of `SWITCHED_ON`.
+fn report_switched_on(ours: f64, off: f64, rust: &[f64]) {
+    let ratio = ours / off;
+    println!("classifier, switch on: ours {ours:.2} ns a word, {ratio:.2} of its time with the switch off");
+    for (Classifier { name, .. }, ns) in SWITCHED_ON.iter().zip(rust) {
+        let ratio = ours / ns;
+        println!("classifier, switch on, rust {name}: {ns:.2} ns, ours {ratio:.2} of it");
+    }
 }
 
 /// `rust` has the times of `SMALL`, then that of `LARGE`.

@@ -1,4 +1,4 @@
-//! The type of a retired instruction word, found in a list of masks and patterns.
+//! The type of a retired instruction word, found in a list of masks and patterns, and its length.
 
 pub(crate) const NONE: u8 = 0;
 pub(crate) const NOT_TAKEN_BRANCH: u8 = 4;
@@ -60,6 +60,40 @@ const IS_C_REGISTER_JUMP: u32 = C_FUNCT4 | C_RS2 | QUADRANT;
 /// The bits that tell C.J, C.BEQZ and C.BNEZ from all others.
 const IS_C_OFFSET_JUMP: u32 = C_FUNCT3 | QUADRANT;
 
+// The fields of table jumps (Zcmt) and of words that push and pop (Zcmp).
+const CM_FUNCT6: u32 = 0x3f << 10;
+const CM_FUNCT2: u32 = 0x3 << 8;
+
+const fn cm_funct2(code: u32) -> u32 {
+    code << 8
+}
+
+const fn cm_rlist(code: u32) -> u32 {
+    code << 4
+}
+
+const fn cm_index(number: u32) -> u32 {
+    number << 2
+}
+
+// CM.JT and CM.JALT differ in the index alone.
+const CM_JT: u32 = 0b101000 << 10 | 0b10;
+const CM_JALT: u32 = CM_JT;
+const CM_POPRETZ: u32 = 0b101111 << 10 | cm_funct2(0b00) | 0b10;
+const CM_POPRET: u32 = 0b101111 << 10 | cm_funct2(0b10) | 0b10;
+
+/// The bits that tell table jumps from all others.
+const IS_CM_TABLE_JUMP: u32 = CM_FUNCT6 | QUADRANT;
+
+/// The bits of the index that are all 0 up to 31, and never from 32 on.
+const CM_LARGE_INDEX: u32 = cm_index(0b1110_0000);
+
+/// The bits that tell CM.POPRET and CM.POPRETZ from all others, CM.PUSH and CM.POP among them.
+const IS_CM_POP_RETURN: u32 = CM_FUNCT6 | CM_FUNCT2 | QUADRANT;
+
+/// The bits of rlist that are all 0 up to 3, and never from 4 on.
+const CM_LARGE_RLIST: u32 = cm_rlist(0b1100);
+
 /// The words that equal `pattern` in the bits of `mask` have the type `number`.
 struct Rule {
     mask: u32,
@@ -115,15 +149,31 @@ const COMPRESSED_RULES: &[Rule] = &[
     rule(IS_C_OFFSET_JUMP, C_BNEZ, TAKEN_BRANCH),
 ];
 
-/// The number of the word's transfer type, 0 if it has none; `taken` matters to branches only.
-pub fn transfer_type(word: u32, taken: bool) -> u8 {
-    let rules = if word & QUADRANT == 0b11 {
-        RULES
+/// Table jumps and pop-returns, which lie where other machines have C.FSDSP. No other compressed rule
+/// reaches there, and no mask into the upper half.
+const ZC_RULES: &[Rule] = &[
+    rule(IS_CM_TABLE_JUMP | CM_LARGE_INDEX, CM_JT, DIRECT_JUMP),
+    rule(IS_CM_TABLE_JUMP, CM_JALT, DIRECT_CALL),
+    // rlist 0 to 3 is reserved.
+    rule(IS_CM_POP_RETURN | CM_LARGE_RLIST, CM_POPRET, NONE),
+    rule(IS_CM_POP_RETURN | CM_LARGE_RLIST, CM_POPRETZ, NONE),
+    rule(IS_CM_POP_RETURN, CM_POPRET, RETURN),
+    rule(IS_CM_POP_RETURN, CM_POPRETZ, RETURN),
+];
+
+/// How many bytes the word has. Those of longer formats have 4 here, and no type.
+pub fn length(word: u32) -> u8 {
+    if word & QUADRANT == 0b11 {
+        4
     } else {
-        COMPRESSED_RULES
-    };
-    let number = rules
-        .iter()
+        2
+    }
+}
+
+/// The number of the word's transfer type, 0 if it has none; `taken` matters to branches only, and
+/// `zc` to table jumps and pop-returns only.
+pub fn transfer_type(word: u32, taken: bool, zc: bool) -> u8 {
+    let number = rules(word, zc)
         .find(|rule| word & rule.mask == rule.pattern)
         .map_or(NONE, |rule| rule.number);
     if number == TAKEN_BRANCH && !taken {
@@ -131,6 +181,16 @@ pub fn transfer_type(word: u32, taken: bool) -> u8 {
     } else {
         number
     }
+}
+
+/// The rules for words of this word's length.
+fn rules(word: u32, zc: bool) -> impl Iterator<Item = &'static Rule> {
+    let (rules, switched): (&[Rule], &[Rule]) = match (length(word), zc) {
+        (4, _) => (RULES, &[]),
+        (_, false) => (COMPRESSED_RULES, &[]),
+        (_, true) => (COMPRESSED_RULES, ZC_RULES),
+    };
+    rules.iter().chain(switched)
 }
 
 /// The name of a number that `transfer_type` gives. Panics for all others.
@@ -156,15 +216,16 @@ mod tests {
 
     #[test]
     fn patterns_lie_in_their_masks() {
-        for rule in RULES.iter().chain(COMPRESSED_RULES) {
+        for rule in [RULES, COMPRESSED_RULES, ZC_RULES].into_iter().flatten() {
             assert_eq!(rule.pattern & !rule.mask, 0, "pattern {:#x}", rule.pattern);
         }
     }
 
-    /// With ones in all bits outside its mask, a word names no register of an earlier rule.
+    /// With ones in all bits outside its mask, a word names no register, index or rlist of an earlier
+    /// rule.
     #[test]
     fn no_rule_is_hidden_by_an_earlier_one() {
-        for rules in [RULES, COMPRESSED_RULES] {
+        for rules in [RULES, COMPRESSED_RULES, ZC_RULES] {
             for (index, rule) in rules.iter().enumerate() {
                 let word = rule.pattern | !rule.mask;
                 let first = rules.iter().position(|r| word & r.mask == r.pattern);
@@ -175,6 +236,21 @@ mod tests {
 
     #[test]
     fn compressed_masks_stay_in_the_low_half() {
-        assert!(COMPRESSED_RULES.iter().all(|rule| rule.mask <= 0xffff));
+        let mut rules = COMPRESSED_RULES.iter().chain(ZC_RULES);
+        assert!(rules.all(|rule| rule.mask <= 0xffff));
+    }
+
+    /// C.FSDSP has funct3 101 in quadrant 10.
+    #[test]
+    fn only_the_switched_rules_reach_the_codes_of_c_fsdsp() {
+        for code in 0..1 << 11 {
+            let word = 0b101 << 13 | code << 2 | 0b10;
+            let mut rules = COMPRESSED_RULES.iter();
+            assert!(rules.all(|rule| word & rule.mask != rule.pattern));
+        }
+        for rule in ZC_RULES {
+            assert_eq!(rule.mask & 0xe003, 0xe003);
+            assert_eq!(rule.pattern & 0xe003, 0xa002);
+        }
     }
 }

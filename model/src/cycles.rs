@@ -216,7 +216,7 @@ mod tests {
             let mut registers = Registers {
                 cycles: before,
                 ccv: true,
-                ..Registers::RESET
+                ..Registers::reset(false)
             };
             registers.add_cycles(cycles);
             assert_eq!((registers.cycles, registers.ccv), (after, true));

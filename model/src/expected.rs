@@ -19,14 +19,15 @@ pub use self::replay_sweep::{replay_sweep, replay_sweep_input};
 pub use self::step_bench::{step_bench, step_bench_input};
 pub use self::trace_sweep::trace_sweep;
 use self::traces::{replay_files, setup_files};
-use crate::classifier::{name, transfer_type};
-use crate::digest::{digest, xorshift64, SEED};
+use crate::classifier::{length, transfer_type};
+use crate::classify::classify;
+use crate::digest::{extended, xorshift64, SEED};
 use crate::encode::{branch, c_jalr, c_jr, jal, jalr};
 
 /// The stored files: path from the repository's root, and contents.
 pub fn files() -> Vec<(&'static str, Vec<u8>)> {
     let input = classify_input();
-    let output = classify(&input);
+    let output = classify(&[], &input).stdout;
     let mut files = vec![
         ("crates/classify/stdin", input),
         ("crates/classify/stdout", output.into_bytes()),
@@ -67,25 +68,6 @@ pub fn write_files(root: &Path) -> Result<(), String> {
     Ok(())
 }
 
-/// What `classify` prints for these bytes, read as little-endian words.
-pub fn classify(input: &[u8]) -> String {
-    let words = input.chunks_exact(4);
-    let is_incomplete = !words.remainder().is_empty();
-    let mut text: String = words
-        .map(|bytes| classified(u32::from_le_bytes(bytes.try_into().expect("four bytes"))))
-        .collect();
-    if is_incomplete {
-        text.push_str("incomplete word\n");
-    }
-    text
-}
-
-/// The line of one word, a branch as taken.
-fn classified(word: u32) -> String {
-    let number = transfer_type(word, true);
-    format!("{word:08x} {number} {}\n", name(number))
-}
-
 /// The bytes that `classify` is fed with: many words, and three bytes of a further one.
 pub fn classify_input() -> Vec<u8> {
     sample_words()
@@ -113,10 +95,11 @@ const COMPRESSED_OFFSET_JUMPS: [u32; 6] = [0xa001, 0xbffd, 0xc001, 0xdffd, 0xe00
 const UPPER_HALVES: [u32; 4] = [0x006fa001, 0x8082a001, 0x8000a001, 0xffffa001];
 
 /// No transfers: C.JR x0, C.MV, C.ADD, the code of C.JAL on RV32, C.NOP, all zeros, all ones,
-/// NOP, AUIPC, LUI, ECALL, EBREAK, SRET, MRET, WFI.
-const OTHER_WORDS: [u32; 15] = [
+/// NOP, AUIPC, LUI, ECALL, EBREAK, SRET, MRET, WFI; and with the switch off CM.JT, CM.JALT and CM.POPRET.
+const OTHER_WORDS: [u32; 18] = [
     0x00008002, 0x00008086, 0x00009086, 0x00002001, 0x00000001, 0x00000000, 0xffffffff, 0x00000013,
-    0x00000097, 0x000000b7, 0x00000073, 0x00100073, 0x10200073, 0x30200073, 0x10500073,
+    0x00000097, 0x000000b7, 0x00000073, 0x00100073, 0x10200073, 0x30200073, 0x10500073, 0x0000a002,
+    0x0000a082, 0x0000be42,
 ];
 
 /// Distinct words of every type and of none.
@@ -138,20 +121,26 @@ fn sample_words() -> Vec<u32> {
     words
 }
 
-/// What `classifier_sweep` prints: a block of lines for each group of words.
+/// What `classifier_sweep` prints: a block of lines for each group of words, with the switch off and then
+/// with it on.
 pub fn classifier_sweep() -> String {
+    [false, true].map(blocks).concat()
+}
+
+fn blocks(zc: bool) -> String {
     let mut text = String::new();
     for upper in [0x0000, 0xffff, 0x0002, 0xa5a8] {
         let words = (0..=0xffff).map(|low| upper << 16 | low);
-        text += &block(&format!("low halves under 0x{upper:04x}"), words);
+        text += &block(&format!("low halves under 0x{upper:04x}"), zc, words);
     }
+    text += &block("low halves in runs", zc, 0..=0xffff);
     let jalr_words = under_each_pattern(8192, |p, i| jalr(p, i / 32 % 32, i / 1024, i % 32));
     let jal_words = under_each_pattern(32, jal);
     let branch_words = under_each_pattern(256, |p, i| branch(p, i / 32, i % 32));
-    text += &block("jalr", jalr_words);
-    text += &block("jal", jal_words);
-    text += &block("branch", branch_words);
-    text += &block("random", random_words().take(100_000));
+    text += &block("jalr", zc, jalr_words);
+    text += &block("jal", zc, jal_words);
+    text += &block("branch", zc, branch_words);
+    text += &block("random", zc, random_words().take(100_000));
     text
 }
 
@@ -175,19 +164,26 @@ fn random_words() -> impl Iterator<Item = u32> {
 /// The types that words have, a branch as taken.
 const WORD_TYPES: [u8; 10] = [0, 5, 8, 9, 10, 11, 12, 13, 14, 15];
 
-/// How many words of each type there are, branches as taken, and the digest of words and types.
-fn block(title: &str, words: impl Iterator<Item = u32>) -> String {
+/// How many words of each type and of each length there are, branches as taken, and the digest of words,
+/// types and lengths.
+fn block(title: &str, zc: bool, words: impl Iterator<Item = u32>) -> String {
     let mut counts = [0; 16];
+    let mut lengths = [0; 5];
     let mut sum = 0;
     for word in words {
-        let number = transfer_type(word, true);
+        let (number, length) = (transfer_type(word, true, zc), length(word));
         counts[usize::from(number)] += 1;
-        sum = digest(digest(sum, word.into()), number.into());
+        lengths[usize::from(length)] += 1;
+        sum = extended(sum, [word.into(), number.into(), length.into()]);
     }
     let total: u32 = counts.iter().sum();
-    let mut text = format!("{title}\n  words {total}\n");
+    let switch = if zc { "on" } else { "off" };
+    let mut text = format!("{title}, switch {switch}\n  words {total}\n");
     for number in WORD_TYPES {
         text += &format!("  type {number} {}\n", counts[usize::from(number)]);
+    }
+    for length in [2, 4] {
+        text += &format!("  length {length} {}\n", lengths[length]);
     }
     text + &format!("  digest 0x{sum:016x}\n")
 }
@@ -198,15 +194,6 @@ mod tests {
     use std::collections::HashSet;
 
     #[test]
-    fn classify_prints_a_line_for_each_word_and_one_for_the_rest() {
-        let input = [0x63, 0, 0, 0, 0x82, 0x80, 0, 0, 0x6f];
-        let lines = "00000063 5 branch\n00008082 13 function return\nincomplete word\n";
-        assert_eq!(classify(&input), lines);
-        assert_eq!(classify(&input[..4]), "00000063 5 branch\n");
-        assert_eq!(classify(&[]), "");
-    }
-
-    #[test]
     fn sample_words_are_distinct_and_of_every_type() {
         let words = sample_words();
         let distinct: HashSet<u32> = words.iter().copied().collect();
@@ -214,7 +201,7 @@ mod tests {
         assert_eq!(distinct.len(), words.len());
         let types: HashSet<u8> = words
             .iter()
-            .map(|word| transfer_type(*word, true))
+            .map(|word| transfer_type(*word, true, false))
             .collect();
         assert_eq!(types, HashSet::from(WORD_TYPES));
     }
@@ -235,20 +222,39 @@ mod tests {
         let (reserved, call, other) = (7 * 32 * 32, 2 * 32 - 2, 29 * 30);
         let jalr_counts = [reserved, 0, call, 0, 30, 0, 2, 30 * 2, other, 0];
         assert_eq!(
-            counts_of(&sweep, "jalr"),
+            counts_of(&sweep, "jalr, switch on"),
             jalr_counts.map(|count| 6 * count)
         );
         let jal_counts = [0, 0, 0, 2, 0, 1, 0, 0, 0, 29];
-        assert_eq!(counts_of(&sweep, "jal"), jal_counts.map(|count| 6 * count));
+        assert_eq!(
+            counts_of(&sweep, "jal, switch on"),
+            jal_counts.map(|count| 6 * count)
+        );
         let branch_counts = [2 * 32, 6 * 32, 0, 0, 0, 0, 0, 0, 0, 0];
         assert_eq!(
-            counts_of(&sweep, "branch"),
+            counts_of(&sweep, "branch, switch on"),
             branch_counts.map(|count| 6 * count)
         );
     }
 
+    /// 32, 224 and 2 times 48 of C.FSDSP's 2,048 codes have a type with the switch on, and lengths go by
+    /// the two low bits.
+    #[test]
+    fn sweep_counts_what_the_switch_adds() {
+        let sweep = classifier_sweep();
+        let off = counts_of(&sweep, "low halves in runs, switch off");
+        let on = counts_of(&sweep, "low halves in runs, switch on");
+        let added: Vec<i64> = on.iter().zip(&off).map(|(on, off)| on - off).collect();
+        assert_eq!(added, [-352, 0, 0, 224, 0, 32, 0, 96, 0, 0]);
+        for title in ["switch off", "switch on"] {
+            let lengths = "\n  length 2 49152\n  length 4 16384\n";
+            let block = sweep.split_once(&format!("low halves in runs, {title}\n"));
+            assert!(block.expect("the block").1.contains(lengths));
+        }
+    }
+
     /// The counts in the lines "  type T COUNT" of one block.
-    fn counts_of(sweep: &str, title: &str) -> Vec<u32> {
+    fn counts_of(sweep: &str, title: &str) -> Vec<i64> {
         sweep
             .lines()
             .skip_while(|line| *line != title)

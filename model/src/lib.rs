@@ -11,10 +11,12 @@
 
 pub mod access;
 pub mod classifier;
+pub mod classify;
 pub mod cycles;
 pub mod digest;
 mod encode;
 pub mod expected;
+pub mod printed;
 pub mod recorder;
 pub mod registers;
 pub mod replay;

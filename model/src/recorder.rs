@@ -96,10 +96,10 @@ impl Event {
 }
 
 impl Machine {
-    /// The registers' reset, and all entries 0.
-    pub fn reset() -> Machine {
+    /// The registers' reset, with `zc` as given, and all entries 0.
+    pub fn reset(zc: bool) -> Machine {
         Machine {
-            registers: Registers::RESET,
+            registers: Registers::reset(zc),
             entries: [Entry::default(); ENTRIES],
         }
     }
@@ -125,7 +125,7 @@ impl Machine {
     }
 
     fn retire(&mut self, retired: &Retired) -> u64 {
-        let number = transfer_type(retired.word, retired.taken);
+        let number = transfer_type(retired.word, retired.taken, self.registers.zc);
         let mode = self.registers.mode;
         self.count(mode, retired.cycles);
         if number == NONE || self.registers.frozen || !self.registers.is_on(mode) {

@@ -66,6 +66,8 @@ pub struct Registers {
     pub cycles: u64,
     /// The CCV that an ordinary record would now get.
     pub ccv: bool,
+    /// Whether there are table jumps and pop-returns (Zcmt and Zcmp). Only a reset decides it.
+    pub zc: bool,
 }
 
 /// The three words of an entry, undefined bits included.
@@ -151,24 +153,27 @@ pub(crate) fn listed(csr: u64) -> Option<Register> {
 }
 
 impl Registers {
-    /// Mode M, and all else 0.
-    pub const RESET: Registers = Registers {
-        mode: Mode::M,
-        mctrctl: 0,
-        vsctrctl: 0,
-        depth_code: 0,
-        wrptr: 0,
-        frozen: false,
-        siselect: 0,
-        vsiselect: 0,
-        mstateen0_ctr: false,
-        hstateen0_ctr: false,
-        cycles: 0,
-        ccv: false,
-    };
+    /// Mode M, `zc` as given, and all else 0.
+    pub const fn reset(zc: bool) -> Registers {
+        Registers {
+            mode: Mode::M,
+            mctrctl: 0,
+            vsctrctl: 0,
+            depth_code: 0,
+            wrptr: 0,
+            frozen: false,
+            siselect: 0,
+            vsiselect: 0,
+            mstateen0_ctr: false,
+            hstateen0_ctr: false,
+            cycles: 0,
+            ccv: false,
+            zc,
+        }
+    }
 
     /// All fields as numbers: the mode by its code, bits as 0 and 1.
-    pub(crate) fn fields(&self) -> [u64; 12] {
+    pub(crate) fn fields(&self) -> [u64; 13] {
         [
             self.mode as u64,
             self.mctrctl,
@@ -182,6 +187,7 @@ impl Registers {
             self.hstateen0_ctr.into(),
             self.cycles,
             self.ccv.into(),
+            self.zc.into(),
         ]
     }
 
@@ -340,6 +346,35 @@ mod tests {
         let mask = fields.fold(0, |mask, bit| mask | 1_u64 << bit);
         assert_eq!(SCTRCTL_MASK, mask);
         assert_eq!(MCTRCTL_MASK, mask | 1 << 2 | 1 << 9);
+    }
+
+    #[test]
+    fn fields_come_in_their_order() {
+        let registers = Registers {
+            mode: Mode::VS,
+            mctrctl: 11,
+            vsctrctl: 12,
+            depth_code: 13,
+            wrptr: 14,
+            frozen: true,
+            siselect: 15,
+            vsiselect: 16,
+            mstateen0_ctr: true,
+            hstateen0_ctr: false,
+            cycles: 17,
+            ccv: true,
+            zc: false,
+        };
+        let fields = [4, 11, 12, 13, 14, 1, 15, 16, 1, 0, 17, 1, 0];
+        assert_eq!(registers.fields(), fields);
+    }
+
+    #[test]
+    fn zc_is_the_last_field() {
+        let mode_m_alone = [2, 0, 0, 0, 0, 0, 0, 0, 0, 0, 0, 0, 0];
+        let with_zc = [2, 0, 0, 0, 0, 0, 0, 0, 0, 0, 0, 0, 1];
+        assert_eq!(Registers::reset(false).fields(), mode_m_alone);
+        assert_eq!(Registers::reset(true).fields(), with_zc);
     }
 
     #[test]

@@ -9,13 +9,9 @@ use std::io::{self, Read};
 use self::command::{command, Command, Options, USAGE};
 pub use self::report::{Run, NUMBERS, TYPES, VALUES};
 pub use self::rows::{bytes_of, decode, encode, row_of, BrokenWord, Row, ROW_BYTES};
+use crate::printed::Printed;
 
-/// What goes to standard output and to standard error.
-#[derive(Debug, Default, PartialEq, Eq)]
-pub struct Printed {
-    pub stdout: String,
-    pub stderr: String,
-}
+const PROGRAM: &str = "replay";
 
 /// What is printed for these arguments, where `open` opens the traces.
 pub fn replay<R: Read>(arguments: &[String], open: impl Fn(&str) -> io::Result<R>) -> Printed {
@@ -27,20 +23,16 @@ pub fn replay<R: Read>(arguments: &[String], open: impl Fn(&str) -> io::Result<R
                 let has_title = traces.len() > 1;
                 match open(name) {
                     Ok(file) => printed.add_trace(name, has_title, options, file),
-                    Err(error) => printed.complain(&of_trace(name, &system_words(&error))),
+                    Err(error) => printed.complain(PROGRAM, &of_trace(name, &system_words(&error))),
                 }
             }
         }
-        Err(message) => printed.complain(&message),
+        Err(message) => printed.complain(PROGRAM, &message),
     }
     printed
 }
 
 impl Printed {
-    fn complain(&mut self, message: &str) {
-        self.stderr += &format!("replay: {message}\n");
-    }
-
     fn add_trace(&mut self, name: &str, has_title: bool, options: Options, mut file: impl Read) {
         if has_title {
             self.stdout += &format!("trace {name}\n");
@@ -54,13 +46,13 @@ impl Printed {
             .and_then(|()| reading.map_err(|error| system_words(&error)))
             .and_then(|_| left_over(rows.len(), rest.len()));
         if let Err(message) = outcome {
-            self.complain(&of_trace(name, &message));
+            self.complain(PROGRAM, &of_trace(name, &message));
         }
     }
 
     /// Runs the rows before the first malformed one.
     fn add_run(&mut self, rows: &[[u8; ROW_BYTES]], options: Options) -> Result<(), String> {
-        let mut run = Run::from_reset();
+        let mut run = Run::from_reset(options.zc);
         let outcome = rows.iter().enumerate().try_for_each(|(index, bytes)| {
             let event = decode(row_of(bytes)).map_err(|word| malformed(index, word))?;
             let answer = run.step(event);
@@ -110,6 +102,7 @@ mod tests {
     const TURN_M_ON: Row = [0x103, 0x34E, 4, 0];
     const CALL: Row = [0, 0xef, 0x1000, 0x2000];
     const MISPREDICTED_CALL: Row = [0x200, 0xef, 0x1000, 0x2000];
+    const TABLE_JUMP: Row = [0, 0xa002, 0x3000, 0x4000];
     const MALFORMED: Row = [3, 4096, 0, 0];
 
     const EISDIR: i32 = 21;
@@ -129,6 +122,7 @@ mod tests {
             "call" => call,
             "empty" => vec![],
             "mispredicted" => bytes_of([TURN_M_ON, MISPREDICTED_CALL, CALL]),
+            "table" => bytes_of([TURN_M_ON, TABLE_JUMP]),
             "damaged" => [call, bytes_of([MALFORMED, CALL]), vec![0; 5]].concat(),
             "malformed" => bytes_of([MALFORMED]),
             "cut" => [call, vec![0; 31]].concat(),
@@ -146,7 +140,10 @@ mod tests {
     }
 
     fn report_of(rows: &[Row]) -> String {
-        let mut run = Run::from_reset();
+        report_from(Run::from_reset(false), rows)
+    }
+
+    fn report_from(mut run: Run, rows: &[Row]) -> String {
         for row in rows {
             run.step(decode(*row).expect("a well-formed row"));
         }
@@ -179,6 +176,7 @@ mstateen0.CTR 0x0
 hstateen0.CTR 0x0
 cycles 0x0
 ccv 0x1
+zc 0x0
 0 0x1000 -> 0x2000 direct call
 ";
         assert_prints("call", expected, "");
@@ -217,7 +215,8 @@ ccv 0x1
     fn usage_goes_to_standard_output() {
         assert_prints("", USAGE, "");
         assert_prints("--help", USAGE, "");
-        assert!(USAGE.starts_with("usage: replay [--answers] [--state] TRACE...\nReplays"));
+        let start = "usage: replay [--answers] [--state] [--zc] TRACE...\nReplays";
+        assert!(USAGE.starts_with(start));
         assert!(USAGE.ends_with("four to an event.\n"));
     }
 
@@ -232,6 +231,22 @@ ccv 0x1
         let (call, empty) = (report_of(&[TURN_M_ON, CALL]), report_of(&[]));
         let expected = format!("trace call\n{call}trace empty\n{empty}trace call\n{call}");
         assert_prints("call empty call", &expected, "");
+    }
+
+    #[test]
+    fn the_switch_is_on_for_each_trace_or_for_none() {
+        let rows = [TURN_M_ON, TABLE_JUMP];
+        let (on, off) = (Run::from_reset(true), Run::from_reset(false));
+        let (on, off) = (report_from(on, &rows), report_from(off, &rows));
+        assert!(on.ends_with("\nzc 0x1\n0 0x3000 -> 0x4000 direct jump\n"));
+        assert!(off.ends_with("\nzc 0x0\n"));
+        assert_prints("--zc table", &on, "");
+        assert_prints("table", &off, "");
+        assert_prints("--zc --answers table", &format!("0 0x0\n0 0x1\n{on}"), "");
+        assert_prints("--answers table", &format!("0 0x0\n0 0x0\n{off}"), "");
+        let twice = |report| format!("trace table\n{report}trace table\n{report}");
+        assert_prints("--zc table table", &twice(&on), "");
+        assert_prints("table table", &twice(&off), "");
     }
 
     #[test]

@@ -90,7 +90,7 @@ mod tests {
 
     /// A machine that has run the samples, so that there is something in it to be changed.
     fn used() -> Machine {
-        stepped(&Machine::reset(), &sample_rows()).0
+        stepped(&Machine::reset(false), &sample_rows()).0
     }
 
     /// As `used`, in each way of being bad.
@@ -137,7 +137,7 @@ mod tests {
 
     #[test]
     fn answers_are_number_and_value_of_each_event_in_turn() {
-        let (mut machine, mut answers) = (Machine::reset(), lent(2 * SAMPLES.len()));
+        let (mut machine, mut answers) = (Machine::reset(false), lent(2 * SAMPLES.len()));
         let outcome = machine.run(&sample_rows().concat(), &mut answers);
         let expected = Outcome {
             number: 0,
@@ -152,7 +152,7 @@ mod tests {
     fn a_whole_run_gives_0_and_the_full_count() {
         for count in 0..=SAMPLES.len() {
             let words = sample_rows()[..count].concat();
-            assert_runs(&Machine::reset(), &words, 2 * count, 0, count);
+            assert_runs(&Machine::reset(false), &words, 2 * count, 0, count);
             assert_runs(&used(), &words, 2 * count, 0, count);
         }
     }
@@ -207,7 +207,7 @@ mod tests {
         for place in 0..=SAMPLES.len() {
             let mut rows = sample_rows();
             rows.insert(place, MALFORMED);
-            for start in [Machine::reset(), used()] {
+            for start in [Machine::reset(false), used()] {
                 assert_runs(&start, &rows.concat(), 2 * rows.len(), 9, place);
             }
         }
@@ -265,7 +265,7 @@ mod tests {
         let rows: Vec<Row> = random_events(1).take(300).map(encode).collect();
         let words = rows.concat();
         let mut starts = bad_machines().to_vec();
-        starts.push(Machine::reset());
+        starts.push(Machine::reset(false));
         for start in starts {
             let (mut whole, mut answers) = (start.clone(), lent(600));
             assert_eq!(whole.run(&words, &mut answers), stopped(0, 300));

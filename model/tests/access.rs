@@ -54,7 +54,7 @@ fn registers(mode: Mode, enables: (u8, u8), selections: (u64, u64)) -> Registers
         hstateen0_ctr: enables.1 == 1,
         cycles: 0x123,
         ccv: true,
-        ..Registers::RESET
+        ..Registers::reset(false)
     }
 }
 
@@ -480,6 +480,7 @@ impl Random {
             hstateen0_ctr: self.bit(),
             cycles: self.one_of(&[0, 1, 0x7FF_FFFF, 0x7FF_FFFF, 0x800_0000]),
             ccv: self.bit(),
+            zc: self.bit(),
         }
     }
 
@@ -510,6 +511,18 @@ impl Random {
             1 => registers.set_state_enables(self.bit(), self.bit()),
             _ => registers.access(entry, self.access()),
         }
+    }
+}
+
+/// Granted or refused.
+#[test]
+fn no_event_changes_the_switch() {
+    let mut random = Random(SEED);
+    for _ in 0..200_000 {
+        let before = random.registers();
+        let (mut registers, mut entry) = (before, random.entry());
+        random.event(&mut registers, &mut entry);
+        assert_eq!(registers.zc, before.zc);
     }
 }
 

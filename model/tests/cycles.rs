@@ -139,7 +139,7 @@ fn impossible_from(mode: Mode) -> Vec<Event> {
 
 /// With both state enables, WRPTR 4, entries of their own, and a count that is valid.
 fn machine(mode: Mode, on: &[Mode]) -> Machine {
-    let mut machine = Machine::reset();
+    let mut machine = Machine::reset(false);
     let registers = &mut machine.registers;
     registers.mode = mode;
     registers.wrptr = 4;
@@ -196,7 +196,7 @@ fn assert_leaves(start: &Machine, event: Event, counter: u64) {
 
 #[test]
 fn after_reset_the_first_record_has_ccv_0_and_the_next_1() {
-    let mut machine = Machine::reset();
+    let mut machine = Machine::reset(false);
     assert_eq!(count(&machine), (0, false));
     machine.registers.mctrctl = 4;
     let events = [
@@ -543,7 +543,7 @@ fn sctrclr_restarts_the_counter_with_ccv_0_if_it_is_granted() {
             let mut expected = start;
             if number == 0 {
                 (expected.registers.cycles, expected.registers.ccv) = (0, false);
-                expected.entries = Machine::reset().entries;
+                expected.entries = Machine::reset(false).entries;
             }
             assert_eq!(after, expected);
         }

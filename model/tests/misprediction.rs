@@ -90,7 +90,7 @@ fn ctrtarget(address: u64, mispredicted: bool) -> u64 {
 
 /// Depth 16, WRPTR 4, both state enables, and valid entries of their own, which all have this MISP.
 fn machine(mode: Mode, on: &[Mode], misp: bool) -> Machine {
-    let mut machine = Machine::reset();
+    let mut machine = Machine::reset(false);
     let registers = &mut machine.registers;
     registers.mode = mode;
     registers.wrptr = NEXT as u64;

@@ -137,7 +137,7 @@ fn switch(mode: Mode) -> u64 {
 
 /// Depth 16, WRPTR 4, and each entry with words of its own.
 fn machine(mode: Mode, on: &[Mode]) -> Machine {
-    let mut machine = Machine::reset();
+    let mut machine = Machine::reset(false);
     machine.registers.mode = mode;
     machine.registers.wrptr = 4;
     for mode in on {
@@ -216,10 +216,28 @@ fn pairs(table: [(Mode, &'static [Mode]); 5]) -> impl Iterator<Item = (Mode, Mod
 }
 
 #[test]
-fn reset_is_mode_m_and_all_else_0() {
-    let machine = Machine::reset();
-    assert_eq!(machine.registers, Registers::RESET);
-    assert_eq!(machine.entries, [entry(0, 0, 0); 256]);
+fn reset_is_mode_m_zc_as_given_and_all_else_0() {
+    for zc in [false, true] {
+        let expected = Registers {
+            mode: M,
+            mctrctl: 0,
+            vsctrctl: 0,
+            depth_code: 0,
+            wrptr: 0,
+            frozen: false,
+            siselect: 0,
+            vsiselect: 0,
+            mstateen0_ctr: false,
+            hstateen0_ctr: false,
+            cycles: 0,
+            ccv: false,
+            zc,
+        };
+        let machine = Machine::reset(zc);
+        assert_eq!(machine.registers, expected);
+        assert_eq!(machine.registers, Registers::reset(zc));
+        assert_eq!(machine.entries, [entry(0, 0, 0); 256]);
+    }
 }
 
 /// The depth codes, and the last entry in use at each.
@@ -939,7 +957,7 @@ fn accesses_reach_the_selected_entry() {
 /// selections 0x200 to 0x2FF, newest first.
 #[test]
 fn at_depth_256_the_newest_256_records_are_read() {
-    let mut machine = Machine::reset();
+    let mut machine = Machine::reset(false);
     write(&mut machine, 0x34E, 4);
     write(&mut machine, 0x15F, 7);
     for call in 0..300 {

@@ -16,8 +16,9 @@ const ALL_INHIBITS: u64 = 0xFF2E << 32;
 /// Where the cycle counter stays.
 const TOP: u64 = 0x7FF_FFFF;
 
-/// A branch, jumps of types 10, 11, 14 and 15, and calls, returns and swaps.
-const TRANSFERS: [u32; 9] = [
+/// A branch, jumps of types 10, 11, 14 and 15, and calls, returns and swaps; then CM.JT, CM.JALT,
+/// CM.POPRET and CM.POPRETZ.
+const TRANSFERS: [u32; 13] = [
     0x0000_0063,
     0x0003_0067,
     0x0000_006F,
@@ -27,6 +28,10 @@ const TRANSFERS: [u32; 9] = [
     0x0000_80E7,
     0x0000_8067,
     0x0002_80E7,
+    0x0000_A07E,
+    0x0000_A082,
+    0x0000_BE42,
+    0x0000_BC42,
 ];
 
 /// The last pseudo-random number that was drawn.
@@ -83,11 +88,12 @@ impl Random {
             hstateen0_ctr: self.bit(),
             cycles: self.counter(),
             ccv: self.bit(),
+            zc: self.bit(),
         }
     }
 
     fn machine(&mut self) -> Machine {
-        let mut machine = Machine::reset();
+        let mut machine = Machine::reset(false);
         machine.registers = self.registers();
         for place in &mut machine.entries {
             *place = Entry {
@@ -200,6 +206,43 @@ fn refusals_change_nothing_and_good_states_stay_good() {
         assert_eq!(answer.number == 5, before.registers.is_bad());
         assert_eq!(after.registers.is_bad(), before.registers.is_bad());
         counts[usize::from(answer.number)] += 1;
+    }
+    assert!(counts.iter().all(|count| *count > 1_000), "{counts:?}");
+}
+
+/// In good states and bad ones.
+#[test]
+fn no_event_changes_the_switch() {
+    let mut random = Random(SEED);
+    for _ in 0..ROUNDS {
+        let (before, event) = (random.machine(), random.event());
+        let mut after = before.clone();
+        after.step(event);
+        assert_eq!(after.registers.zc, before.registers.zc);
+    }
+}
+
+/// Whether it is a word where C.FSDSP lies.
+fn is_c_fsdsp(event: Event) -> bool {
+    matches!(event, Event::Retired(retired) if retired.word & 0xE003 == 0xA002)
+}
+
+/// In machines that differ in the switch alone, all other events have the same answer and make the
+/// same of the state.
+#[test]
+fn the_switch_matters_only_to_words_in_place_of_c_fsdsp() {
+    let mut random = Random(SEED);
+    let mut counts = [0; 2];
+    for _ in 0..ROUNDS {
+        let (mut off, event) = (random.machine(), random.event());
+        off.registers.zc = false;
+        let mut on = off.clone();
+        on.registers.zc = true;
+        let is_same_answer = on.step(event) == off.step(event);
+        on.registers.zc = false;
+        let is_same = is_same_answer && on == off;
+        assert!(is_same || is_c_fsdsp(event), "{event:x?}");
+        counts[usize::from(is_same)] += 1;
     }
     assert!(counts.iter().all(|count| *count > 1_000), "{counts:?}");
 }

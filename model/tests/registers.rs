@@ -34,7 +34,7 @@ fn registers(mode: Mode) -> Registers {
         mode,
         mstateen0_ctr: true,
         hstateen0_ctr: true,
-        ..Registers::RESET
+        ..Registers::reset(false)
     }
 }
 
@@ -558,7 +558,7 @@ fn logical_entries_go_back_from_wrptr() {
             let registers = Registers {
                 depth_code,
                 wrptr,
-                ..Registers::RESET
+                ..Registers::reset(false)
             };
             let mut place = wrptr;
             for i in 0..depth {
@@ -585,6 +585,7 @@ fn random_state(next: &mut impl FnMut() -> u64) -> (Registers, Entry) {
         hstateen0_ctr: next() % 4 < 3,
         cycles: next() % (1 << 27),
         ccv: next() % 2 == 1,
+        zc: next() % 2 == 1,
     };
     (registers, entry(next(), next(), next()))
 }

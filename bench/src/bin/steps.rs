@@ -106,7 +106,7 @@ fn ns_each(start: Instant) -> f64 {
 
 /// The round that `step_bench` runs: the digest of the answers and of the state after them.
 fn rust_round() -> u64 {
-    let mut recorder = Recorder::reset();
+    let mut recorder = Recorder::reset(false);
     for (csr, operand) in [(SCTRDEPTH, 4), (MCTRCTL, 4)] {
         let change = Change::of(WRITE, operand).expect("a write");
         recorder.access(csr, change).expect("a granted write");
@@ -136,6 +136,7 @@ fn with_state(digest: u64, recorder: &Recorder) -> u64 {
         r.hstateen0_ctr.into(),
         r.counter,
         r.ccv.into(),
+        r.zc.into(),
     ];
     let words = r.entries.iter().flat_map(|e| [e.source, e.target, e.data]);
     extended(extended(digest, fields), words)

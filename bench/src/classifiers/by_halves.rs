@@ -3,11 +3,12 @@
 //! table by what the large one gives and by those bits, so there is no branch.
 
 use super::by_eights;
-use super::by_match::transfer_type;
+use super::by_match::{switched_type, transfer_type};
 use super::classes::{register_class, REGISTERS};
 
 /// By bits 15..0: the type, or for JALR with an odd rs1 `ODD_BASE` plus the class of rd.
-static HALVES: [u8; 1 << 16] = halves();
+static HALVES: [u8; 1 << 16] = halves(false);
+static SWITCHED_HALVES: [u8; 1 << 16] = halves(true);
 const ODD_BASE: u8 = 16;
 
 /// By 32 times bits 19..16 plus the entry of the large table, which is below 512; it is as long as
@@ -16,21 +17,27 @@ static TYPES: [u8; TYPES_LEN] = types();
 const TYPES_LEN: usize = 32 * 15 + 255 + 1;
 
 pub fn classify_all(words: &[u32], types: &mut [u8]) -> usize {
-    by_eights(words, types, transfer_type_by_halves)
+    by_eights(words, types, |word| by_table(&HALVES, word))
+}
+
+pub fn classify_all_switched(words: &[u32], types: &mut [u8]) -> usize {
+    by_eights(words, types, |word| by_table(&SWITCHED_HALVES, word))
 }
 
 #[inline(always)]
-fn transfer_type_by_halves(word: u32) -> u8 {
-    let entry = HALVES[(word & 0xffff) as usize];
+fn by_table(halves: &[u8; 1 << 16], word: u32) -> u8 {
+    let entry = halves[(word & 0xffff) as usize];
     TYPES[(word >> 11 & 0x1e0) as usize + usize::from(entry)]
 }
 
-const fn halves() -> [u8; 1 << 16] {
+const fn halves(is_switched: bool) -> [u8; 1 << 16] {
     let mut halves = [0; 1 << 16];
     let mut half = 0;
     while half < halves.len() {
         halves[half] = if half & 0xf07f == 0x8067 {
             ODD_BASE + register_class(half >> 7 & 31)
+        } else if is_switched {
+            switched_type(half as u32)
         } else {
             transfer_type(half as u32)
         };

@@ -32,6 +32,30 @@ pub const fn transfer_type(word: u32) -> u8 {
     }
 }
 
+pub fn classify_all_switched(words: &[u32], types: &mut [u8]) -> usize {
+    one_by_one(words, types, switched_type)
+}
+
+/// With table jumps and pop-returns, which have codes of C.FSDSP.
+#[inline(always)]
+pub const fn switched_type(word: u32) -> u8 {
+    if word & 0xe003 == 0xa002 {
+        table_jump_or_pop(word)
+    } else {
+        transfer_type(word)
+    }
+}
+
+/// The index of a table jump is below 32 if bits 9 to 7 are 0, and rlist below 4 if bits 7 and 6 are.
+const fn table_jump_or_pop(word: u32) -> u8 {
+    match word >> 8 & 0x1f {
+        0..=3 if word & 0x380 == 0 => DIRECT_JUMP,
+        0..=3 => DIRECT_CALL,
+        0x1c | 0x1e if word & 0xc0 != 0 => RETURN,
+        _ => NONE,
+    }
+}
+
 /// 2 and 3 are reserved.
 const fn branch(funct3: u32) -> u8 {
     match funct3 {

@@ -1,7 +1,7 @@
 //! Three tables: a row by the low 12 bits of a word, a column by bits 19..12, and the type by both.
 
 use super::by_eights;
-use super::by_match::transfer_type;
+use super::by_match::{switched_type, transfer_type};
 use super::classes::{opcode_group, register_class, OPCODES, REGISTERS};
 
 /// By bits 11..0: eight times the row, which is four times the group of the opcode plus the class
@@ -16,15 +16,25 @@ static COLUMNS: [u8; 256] = columns();
 static TYPES: [u8; TYPES_LEN] = types();
 const TYPES_LEN: usize = 4 * 255 + 255 + 1;
 
+/// The same with more rows, for table jumps and pop-returns.
+static SWITCHED_ROWS: [u8; 4096] = switched_rows();
+static SWITCHED_TYPES: [u8; TYPES_LEN] = switched_types();
+
 pub fn classify_all(words: &[u32], types: &mut [u8]) -> usize {
-    by_eights(words, types, transfer_type_by_parts)
+    by_eights(words, types, |word| by_tables(&ROWS, &TYPES, word))
+}
+
+pub fn classify_all_switched(words: &[u32], types: &mut [u8]) -> usize {
+    by_eights(words, types, |word| {
+        by_tables(&SWITCHED_ROWS, &SWITCHED_TYPES, word)
+    })
 }
 
 #[inline(always)]
-fn transfer_type_by_parts(word: u32) -> u8 {
-    let row = ROWS[(word & 0xfff) as usize];
+fn by_tables(rows: &[u8; 4096], types: &[u8; TYPES_LEN], word: u32) -> u8 {
+    let row = rows[(word & 0xfff) as usize];
     let column = COLUMNS[(word >> 12 & 0xff) as usize];
-    TYPES[4 * usize::from(row) + usize::from(column)]
+    types[4 * usize::from(row) + usize::from(column)]
 }
 
 const fn rows() -> [u8; 4096] {
@@ -63,6 +73,51 @@ const fn types() -> [u8; TYPES_LEN] {
         let rs1 = [0, 1, 5, 7][index >> 3 & 3];
         let funct3 = (index & 7) as u32;
         types[index] = transfer_type(opcode | rd << 7 | funct3 << 12 | rs1 << 15);
+        index += 1;
+    }
+    types
+}
+
+const fn switched_rows() -> [u8; 4096] {
+    let mut rows = [0; 4096];
+    let mut bits = 0;
+    while bits < rows.len() {
+        rows[bits] = 8 * switched_row(bits);
+        bits += 1;
+    }
+    rows
+}
+
+/// In quadrant 2 bits 11 and 10 tell table jumps, where they are 0, from pop-returns, where they are 1.
+const fn switched_row(bits: usize) -> u8 {
+    let is_register_jump = bits & 0x7f == 2;
+    let is_pop = bits & 0xd00 == 0xc00 && bits & 0xc0 != 0;
+    match (bits & 3, bits >> 10) {
+        (2, 1..) => match (is_register_jump, is_pop) {
+            (true, false) => 28,
+            (true, true) => 29,
+            (false, true) => 31,
+            (false, false) => 3,
+        },
+        (2, 0) if !is_register_jump => 24 + register_class(bits >> 7),
+        _ => 4 * opcode_group(bits & 0x7f) + register_class(bits >> 7),
+    }
+}
+
+/// The low 12 bits of a word of each of the last eight rows.
+const LAST_ROWS: [u32; 8] = [0x006, 0x086, 0x286, 0x306, 0x402, 0xc82, 0x000, 0xc86];
+
+const fn switched_types() -> [u8; TYPES_LEN] {
+    let mut types = [0; TYPES_LEN];
+    let mut index = 0;
+    while index < 1024 {
+        let row = index >> 5;
+        let low = match row {
+            24.. => LAST_ROWS[row - 24],
+            _ => OPCODES[row >> 2] | REGISTERS[row & 3] << 7,
+        };
+        let rs1 = [0, 1, 5, 7][index >> 3 & 3];
+        types[index] = switched_type(low | ((index & 7) as u32) << 12 | rs1 << 15);
         index += 1;
     }
     types

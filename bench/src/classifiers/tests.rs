@@ -1,6 +1,6 @@
 //! Holds every classifier to the model.
 
-use super::{Classifier, BEFORE, LARGE, SMALL};
+use super::{Classifier, BEFORE, LARGE, SMALL, SWITCHED_ON};
 use model::classifier::transfer_type;
 use model::digest::{xorshift64, SEED};
 
@@ -14,20 +14,23 @@ fn words() -> Vec<u32> {
     (0..1 << 20).map(|low| random() << 20 | low).collect()
 }
 
-fn classifiers() -> impl Iterator<Item = Classifier> {
-    [BEFORE, LARGE].into_iter().chain(SMALL)
+/// Each with the switch that it goes by.
+fn classifiers() -> impl Iterator<Item = (Classifier, bool)> {
+    let off = [BEFORE, LARGE].into_iter().chain(SMALL);
+    off.map(|classifier| (classifier, false))
+        .chain(SWITCHED_ON.map(|classifier| (classifier, true)))
 }
 
 #[test]
 fn types_are_the_models() {
     let words = words();
     let mut types = vec![0; words.len()];
-    for classifier in classifiers() {
+    for (classifier, zc) in classifiers() {
         types.fill(u8::MAX);
         let count = (classifier.classify_all)(&words, &mut types);
         assert_eq!(count, words.len(), "{}", classifier.name);
         for (&word, &number) in words.iter().zip(&types) {
-            let expected = transfer_type(word, true);
+            let expected = transfer_type(word, true, zc);
             assert_eq!(number, expected, "{}: {word:#010x}", classifier.name);
         }
     }
@@ -37,11 +40,11 @@ fn types_are_the_models() {
 #[test]
 fn as_many_as_both_slices_hold() {
     let words: Vec<u32> = words().into_iter().step_by(5003).take(200).collect();
-    let expected: Vec<u8> = words
-        .iter()
-        .map(|&word| transfer_type(word, true))
-        .collect();
-    for classifier in classifiers() {
+    for (classifier, zc) in classifiers() {
+        let expected: Vec<u8> = words
+            .iter()
+            .map(|&word| transfer_type(word, true, zc))
+            .collect();
         for count in 0..words.len() {
             for (word_count, type_count) in [(count, 200), (200, count)] {
                 let mut types = vec![u8::MAX; type_count];

@@ -294,7 +294,7 @@ fn swept_state(run: Run, mode: Mode, s: u64) -> Run {
         frozen: s % 2 == 1,
     };
     let r = with_mode(
-        with_buffer(with_controls(machine::regs::reset(), controls), buffer),
+        with_buffer(with_controls(machine::regs::reset(false), controls), buffer),
         mode,
     );
     enabled(next, with_cycles(r, cycles_of(s, d)), s)

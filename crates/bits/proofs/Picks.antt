@@ -2,9 +2,9 @@
 -- what a call answered (`r ≡ b`, the callee's ensures) and which way the branch on it went (`r ≡ true`). Assumes nothing.
 use mathlib.Core.Path.{_≡_}
 use mathlib.Core.Bool.{Bool, true, false, not, _&&_, _||_}
-use Prim.Native.Nat.{ℕ}
-use lib.Dec.{eqb}
-use borrow.Author.Tests.{eq-eqb, ne-eqb}
+use Prim.Native.Nat.{ℕ, _<_, _≤_}
+use lib.Dec.{eqb, ltb}
+use borrow.Author.Tests.{eq-eqb, ne-eqb, lt-ltb, le-ltb}
 use Rattle.bits.specs.Choice.{if_then_else_}
 
 pub yes-case : {A : Type 0} (r b : Bool) (x y z : A) → r ≡ b → r ≡ true → x ≡ y → x ≡ (if b then y else z)
@@ -41,4 +41,13 @@ key-other n k j x y z e t p = simp (e, t) p
 pub key-no : {A : Type 0} (n k : ℕ) (x y z : A) → (n ≡ k → ⊥) → x ≡ z → x ≡ (if eqb n k then y else z)
 key-no n k x y z e p = simp (ne-eqb n k e) p
 
+-- and by a number that was found below k or not
+pub below-yes : {A : Type 0} (n k : ℕ) (x y z : A) → n < k → x ≡ y → x ≡ (if ltb n k then y else z)
+below-yes n k x y z l p = simp (lt-ltb n k l) p
+
+pub below-no : {A : Type 0} (n k : ℕ) (x y z : A) → k ≤ n → x ≡ z → x ≡ (if ltb n k then y else z)
+below-no n k x y z l p = simp (le-ltb n k l) p
+
 pub ruleset picks = (yes-case, no-case, and-yes, and-no, not-and-yes, not-and-no, or-yes, or-no, key-yes, key-other, key-no)
+
+pub ruleset picks-below = (picks, below-yes, below-no)

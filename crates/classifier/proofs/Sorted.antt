@@ -1,5 +1,5 @@
--- Exactly one row of the table has a word, or none, and it is the one that the code decides on. Both hang on no more than the
--- word's specimen has, and of all specimens they are computed. Assumes nothing.
+-- With the switch off exactly one row of the table has a word, or none, and it is the one that the code decides on. Both hang on no
+-- more than the word's specimen has, and of all specimens they are computed. Assumes nothing.
 use mathlib.Core.Path.{_≡_, refl, sym, ap, _∙_}
 use mathlib.Core.Bool.{Bool, true, false, not, _&&_, and-true, and-false}
 use mathlib.Core.Logic.{inl, inr}
@@ -11,9 +11,9 @@ use Rattle.bits.specs.Choice.{if_then_else_}
 use Rattle.bits.specs.Words.{fieldAt}
 use Rattle.bits.proofs.Cases.{Known, known, both, allBelow, passed}
 use Rattle.classifier.specs.Instructions.{opcode, rd, funct3, rs1, C·op, C·funct3, C·funct4, C·rs1, C·rs2}
-use Rattle.classifier.specs.Transfers.{isBranch, isIndirectCall, isDirectCall, isIndirectJump, isDirectJump, isCoroutineSwap, isFunctionReturn, isOtherIndirectJump, isOtherDirectJump, transferOf, typeOf}
-use Rattle.classifier.specs.Decision.{branchBy, indirectBy, directBy, jalrBy, wideBy, quadrant1By, registerJumpBy, decisionOf}
-use Rattle.classifier.specs.Tables.{opcodeOf, registerOf, keyOf, specimenOf}
+use Rattle.classifier.specs.Transfers.{isBranch, isIndirectCall, isDirectCall, isIndirectJump, isDirectJump, isCoroutineSwap, isFunctionReturn, isOtherIndirectJump, isOtherDirectJump, plainTransfer, typeOf}
+use Rattle.classifier.specs.Decision.{branchBy, indirectBy, directBy, jalrBy, wideBy, quadrant1By, registerJumpBy, plainDecision}
+use Rattle.classifier.specs.Tables.{opcodeOf, registerOf, lowOf, keyOf, specimenOf}
 use Rattle.classifier.proofs.Specimens.{Alike, alike, same, is-same, key-bound}
 use Rattle.classifier.specs.declared.Transfer.{Transfer}
 use Rattle.classifier.specs.declared.Transfer.the-variants.{None, Branch, IndirectCall, DirectCall, IndirectJump, DirectJump, CoroutineSwap, FunctionReturn, OtherIndirectJump, OtherDirectJump}
@@ -118,8 +118,8 @@ chosen-only OtherDirectJump = refl
 pub distinct : (t u : Transfer) → typeOf t true ≡ typeOf u true → t ≡ u
 distinct t u h = sym (chosen-only t) ∙ ap (λ (n : ℕ). chosen (only n)) h ∙ chosen-only u
 
-transfer : (w : ℕ) (t : Transfer) → Sorted w t → t ≡ transferOf w
-unfolding transferOf rowsOf chosen
+transfer : (w : ℕ) (t : Transfer) → Sorted w t → t ≡ plainTransfer w
+unfolding plainTransfer rowsOf chosen
 transfer w t h = sym (chosen-only t) ∙ sym (ap chosen h)
 
 -- the decision by what `Alike` has: a 32-bit word whose bits 6..4 are not 110 has none of the three opcodes
@@ -131,11 +131,11 @@ plainOf w =
     else (if eqb (C·op w) 1 then quadrant1By (C·funct3 w)
     else (if eqb (opcode w) 2 then registerJumpBy (C·funct4 w) (C·rs1 w) else None))))
 
-plain : (w : ℕ) → decisionOf w ≡ plainOf w
-unfolding decisionOf plainOf wideBy
+plain : (w : ℕ) → plainDecision w ≡ plainOf w
+unfolding plainDecision plainOf wideBy
 plain w = go (known (C·op w) 3) (known (fieldAt w 4 3) 6)
   where
-    go : Known (C·op w) 3 → Known (fieldAt w 4 3) 6 → decisionOf w ≡ plainOf w
+    go : Known (C·op w) 3 → Known (fieldAt w 4 3) 6 → plainDecision w ≡ plainOf w
     go (inr n) m = simp (n, no-branch w (eqb-false _ 3 n), no-jalr w (eqb-false _ 3 n), no-jal w (eqb-false _ 3 n))
     go (inl n) (inl m) =
         let o : eqb (opcode w) 2 ≡ false = ne-eqb (opcode w) 2 (λ (z : opcode w ≡ 2). omega arith) in simp (n, m, o)
@@ -196,7 +196,7 @@ fits : ℕ → Bool
 fits k = agrees (rowsOf (specimenOf k)) (typeOf (plainOf (specimenOf k)) true)
 
 computed : allBelow fits 1024 ≡ true
-unfolding fits agrees same rowsOf specimenOf opcodeOf registerOf plainOf branchBy directBy jalrBy indirectBy quadrant1By registerJumpBy
+unfolding fits agrees same rowsOf specimenOf lowOf opcodeOf registerOf plainOf branchBy directBy jalrBy indirectBy quadrant1By registerJumpBy
 computed = refl
 
 -- so it is of all words
@@ -207,14 +207,14 @@ plain-sorted w =
     a .0 ∙ agreeing _ _ (passed fits 1024 (keyOf w) computed (key-bound w)) ∙ ap (λ (t : Transfer). only (typeOf t true)) (sym (a .1))
 
 -- the code decides on a word's transfer
-pub decided : (w : ℕ) → decisionOf w ≡ transferOf w
-decided w = plain w ∙ transfer w (plainOf w) (plain-sorted w)
+pub plainly-decided : (w : ℕ) → plainDecision w ≡ plainTransfer w
+plainly-decided w = plain w ∙ transfer w (plainOf w) (plain-sorted w)
 
 -- exactly the row of a word's transfer has the word
-pub sorted : (w : ℕ) → Sorted w (transferOf w)
-sorted w = rw (← transfer w (plainOf w) (plain-sorted w)) (plain-sorted w)
+pub plainly-sorted : (w : ℕ) → Sorted w (plainTransfer w)
+plainly-sorted w = rw (← transfer w (plainOf w) (plain-sorted w)) (plain-sorted w)
 
 -- a word's transfer is that of the specimen of its key
-pub specimen-transfer : (w : ℕ) → transferOf (specimenOf (keyOf w)) ≡ transferOf w
-unfolding transferOf rowsOf chosen
-specimen-transfer w = sym (ap chosen (same-answers w (specimenOf (keyOf w)) (alike w) .0))
+pub plain-specimen : (w : ℕ) → plainTransfer (specimenOf (keyOf w)) ≡ plainTransfer w
+unfolding plainTransfer rowsOf chosen
+plain-specimen w = sym (ap chosen (same-answers w (specimenOf (keyOf w)) (alike w) .0))

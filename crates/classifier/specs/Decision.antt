@@ -1,11 +1,12 @@
 -- How the code decides on one word: by the opcode, or the quadrant of a 16-bit instruction, and then by the fields. It is the
--- table sorted otherwise, as proofs/Sorted.antt shows. Nothing outside this crate cites it.
+-- table sorted otherwise, as proofs/Sorted.antt and proofs/Switch.antt show. With the switch on a word that has a code of C.FSDSP goes by
+-- fields of its own. Nothing outside this crate cites it.
 use Prim.Native.Nat.{ℕ}
-use mathlib.Core.Bool.{Bool}
-use lib.Dec.{eqb}
+use mathlib.Core.Bool.{Bool, _&&_}
+use lib.Dec.{eqb, ltb}
 use Rattle.bits.specs.Choice.{if_then_else_}
 use Rattle.bits.specs.Words.{fieldAt}
-use Rattle.classifier.specs.Instructions.{opcode, rd, funct3, rs1, C·op, C·funct3, C·funct4, C·rs1}
+use Rattle.classifier.specs.Instructions.{opcode, rd, funct3, rs1, C·op, C·funct3, C·funct4, C·rs1, CM·funct6, CM·index, CM·funct2, CM·rlist, C·FSDSP}
 use Rattle.classifier.specs.Transfers.{link}
 use Rattle.classifier.specs.declared.Transfer.{Transfer}
 use Rattle.classifier.specs.declared.Transfer.the-variants.{None, Branch, IndirectCall, DirectCall, IndirectJump, DirectJump, CoroutineSwap, FunctionReturn, OtherIndirectJump, OtherDirectJump}
@@ -52,16 +53,35 @@ mayTransfer w = eqb (fieldAt w 4 3) 0b110
 unfoldable pub quadrant1By : ℕ → Transfer
 quadrant1By f = if eqb f 5 then directBy 0 else (if eqb f 6 then Branch else (if eqb f 7 then Branch else None))
 
--- C.JR, which is JALR with rd x0, and C.JALR, with rd x1: by funct4 and rs1. With rs1 x0 the codes are other instructions
+-- C.JR, which is JALR with rd x0, and C.JALR, with rd x1: by funct4 and rs1. With rs1 x0 the codes are reserved and C.EBREAK
 unfoldable pub registerJumpBy : ℕ → ℕ → Transfer
 registerJumpBy f s =
     if eqb s 0 then None
     else (if eqb f 8 then indirectBy 0 s
     else (if eqb f 9 then indirectBy 1 s else None))
 
--- a word. The opcode of C.JR and C.JALR, with rs2 x0, is 2
-unfoldable pub decisionOf : ℕ → Transfer
-decisionOf w =
+-- a pop-return, by rlist: below 4 it is reserved
+unfoldable pub popReturnBy : ℕ → Transfer
+popReturnBy r = if ltb r 4 then None else FunctionReturn
+
+-- CM.POPRET and CM.POPRETZ, by funct2 and rlist
+unfoldable pub popBy : ℕ → ℕ → Transfer
+popBy g r = if eqb g 0b10 then popReturnBy r else (if eqb g 0b00 then popReturnBy r else None)
+
+-- Zcmt and Zcmp, by funct6, index, funct2 and rlist: CM.JT and CM.JALT, and the pop-returns
+unfoldable pub switchedBy : ℕ → ℕ → ℕ → ℕ → Transfer
+switchedBy f i g r =
+    if eqb f 0b101000 then (if ltb i 32 then DirectJump else DirectCall)
+    else (if eqb f 0b101111 then popBy g r else None)
+
+-- a word with the switch off. The opcode of C.JR and C.JALR, with rs2 x0, is 2
+unfoldable pub plainDecision : ℕ → Transfer
+plainDecision w =
     if eqb (C·op w) 3 then (if mayTransfer w then wideBy (opcode w) (funct3 w) (rd w) (rs1 w) else None)
     else (if eqb (C·op w) 1 then quadrant1By (C·funct3 w)
     else (if eqb (opcode w) 2 then registerJumpBy (C·funct4 w) (C·rs1 w) else None))
+
+-- a word
+unfoldable pub decisionOf : Bool → ℕ → Transfer
+decisionOf zc w =
+    if zc && C·FSDSP w then switchedBy (CM·funct6 w) (CM·index w) (CM·funct2 w) (CM·rlist w) else plainDecision w

@@ -1,10 +1,12 @@
 -- The transfer type of each word: a definition for each row of the table of transfer types (docs/RULES.md, T4 to T12), in its
--- order, but for type 12, which type 8 excepts.
+-- order, but for type 12, which type 8 excepts; and one for what each of three rows has besides with the switch zc on (T21 to T23), on
+-- a machine with Zcmp and Zcmt.
 use Prim.Native.Nat.{ℕ}
 use mathlib.Core.Bool.{Bool, not, _&&_, _||_}
 use lib.Dec.{eqb}
 use Rattle.bits.specs.Choice.{if_then_else_}
-use Rattle.classifier.specs.Instructions.{rd, rs1, C·rs1, BEQ, BNE, BLT, BGE, BLTU, BGEU, JALR, JAL, C·J, C·BEQZ, C·BNEZ, C·JR, C·JALR}
+use Rattle.classifier.specs.Instructions.{rd, rs1, C·rs1, BEQ, BNE, BLT, BGE, BLTU, BGEU, JALR, JAL, C·J, C·BEQZ, C·BNEZ, C·JR, C·JALR, CM·JT, CM·JALT, CM·POPRET, CM·POPRETZ, lengthOf}
+use Rattle.classifier.specs.declared.Instruction.{Instruction}
 use Rattle.classifier.specs.declared.Transfer.{Transfer}
 use Rattle.classifier.specs.declared.Transfer.the-variants.{None, Branch, IndirectCall, DirectCall, IndirectJump, DirectJump, CoroutineSwap, FunctionReturn, OtherIndirectJump, OtherDirectJump}
 
@@ -51,9 +53,22 @@ isOtherIndirectJump w = JALR w && not (link (rs1 w)) && not (eqb (rd w) 0) && no
 abbrev pub isOtherDirectJump : ℕ → Bool
 isOtherDirectJump w = JAL w && not (eqb (rd w) 0) && not (link (rd w))
 
--- what transfer a word is; none where no row has it. No word is in two rows (`rows` of Promise), so the order plays no part
-unfoldable pub transferOf : ℕ → Transfer
-transferOf w =
+-- 11, with the switch on: CM.JT
+abbrev pub isTableJump : ℕ → Bool
+isTableJump w = CM·JT w
+
+-- 9, with the switch on: CM.JALT
+abbrev pub isTableCall : ℕ → Bool
+isTableCall w = CM·JALT w
+
+-- 13, with the switch on: CM.POPRET; CM.POPRETZ
+abbrev pub isPopReturn : ℕ → Bool
+isPopReturn w = CM·POPRET w || CM·POPRETZ w
+
+-- what transfer a word is with the switch off; none where no row has it. No word is in two rows (`rows` of Promise), so the order
+-- plays no part, nor does it below
+unfoldable pub plainTransfer : ℕ → Transfer
+plainTransfer w =
     if isBranch w then Branch
     else (if isIndirectCall w then IndirectCall
     else (if isDirectCall w then DirectCall
@@ -64,6 +79,18 @@ transferOf w =
     else (if isOtherIndirectJump w then OtherIndirectJump
     else (if isOtherDirectJump w then OtherDirectJump
     else None))))))))
+
+-- what transfer a word is
+unfoldable pub transferOf : Bool → ℕ → Transfer
+transferOf zc w =
+    if zc && isTableJump w then DirectJump
+    else (if zc && isTableCall w then DirectCall
+    else (if zc && isPopReturn w then FunctionReturn
+    else plainTransfer w))
+
+-- a word's transfer, and its length in bytes
+abbrev pub instructionOf : Bool → ℕ → Instruction
+instructionOf zc w = record { transfer = transferOf zc w; length = lengthOf w }
 
 -- the number of each type in ctrdata; 0 stands for none, and a branch goes by whether it is taken
 abbrev pub typeOf : Transfer → Bool → ℕ

@@ -57,3 +57,31 @@ pub fn c_rs1(word: u32) -> u32
 {
     rd(word)
 }
+
+// Bits 15..10 of a table jump or pop-return.
+pub fn cm_funct6(word: u32) -> u32
+    ensures { λ r. ⌜ r ≡ Instructions.CM·funct6 word ⌝ }
+{
+    bits::field32(word, 10, 6)
+}
+
+// Bits 9..2 of a table jump.
+pub fn cm_index(word: u32) -> u32
+    ensures { λ r. ⌜ r ≡ Instructions.CM·index word ⌝ }
+{
+    bits::field32(word, 2, 8)
+}
+
+// Bits 9..8 of a pop-return.
+pub fn cm_funct2(word: u32) -> u32
+    ensures { λ r. ⌜ r ≡ Instructions.CM·funct2 word ⌝ }
+{
+    bits::field32(word, 8, 2)
+}
+
+// Bits 7..4 of a pop-return.
+pub fn cm_rlist(word: u32) -> u32
+    ensures { λ r. ⌜ r ≡ Instructions.CM·rlist word ⌝ }
+{
+    bits::field32(word, 4, 4)
+}

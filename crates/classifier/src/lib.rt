@@ -1,13 +1,15 @@
-// The word classifier: which control transfer an instruction word is (docs/RULES.md, T1 to T13).
+// The word classifier: which control transfer an instruction word is, and its length (docs/RULES.md, T).
 pub mod exports;
 mod fields;
 mod runs;
 mod tables;
 
 ghost use mathlib.Core.Path.{_≡_};
-ghost use Rattle.classifier.specs.Transfers.{transferOf, typeOf};
+ghost use mathlib.Core.Bool.{_&&_};
+ghost use Rattle.classifier.specs.Instructions.{lengthOf, C·FSDSP};
+ghost use Rattle.classifier.specs.Transfers.{plainTransfer, transferOf, instructionOf, typeOf};
 ghost use Rattle.classifier.specs.Transfers.{link as Transfers·link};
-ghost use Rattle.classifier.specs.Decision.{branchBy, jalrBy, indirectBy, directBy, wideBy, mayTransfer, quadrant1By, registerJumpBy};
+ghost use Rattle.classifier.specs.Decision.{branchBy, jalrBy, indirectBy, directBy, wideBy, mayTransfer, quadrant1By, registerJumpBy, popReturnBy, popBy, switchedBy};
 
 pub enum Transfer {
     None,
@@ -20,6 +22,12 @@ pub enum Transfer {
     FunctionReturn,
     OtherIndirectJump,
     OtherDirectJump,
+}
+
+// What an instruction word is: its transfer, and its length in bytes.
+pub struct Instruction {
+    pub transfer: Transfer,
+    pub length: u8,
 }
 
 // Whether r is a link register.
@@ -142,10 +150,65 @@ fn register_jump(funct4: u32, rs1: u32) -> Transfer
     }
 }
 
-// The transfer that a word is. C.JR and C.JALR have 2 in their seven low bits: with rs2 not x0 they would be C.MV
-// and C.ADD.
-pub fn classify(word: u32) -> Transfer
-    ensures { λ t. ⌜ t ≡ transferOf word ⌝ }
+// A pop-return. rlist below 4 is reserved.
+fn pop_return(rlist: u32) -> Transfer
+    ensures { λ t. ⌜ t ≡ popReturnBy rlist ⌝ }
+{
+    if rlist < 4 {
+        Transfer::None
+    } else {
+        Transfer::FunctionReturn
+    }
+}
+
+// CM.POPRET and CM.POPRETZ.
+fn pop(funct2: u32, rlist: u32) -> Transfer
+    ensures { λ t. ⌜ t ≡ popBy funct2 rlist ⌝ }
+{
+    if funct2 == 0b10 {
+        pop_return(rlist)
+    } else if funct2 == 0b00 {
+        pop_return(rlist)
+    } else {
+        Transfer::None
+    }
+}
+
+// Zcmt and Zcmp: CM.JT and CM.JALT have funct6 101000, the pop-returns 101111.
+fn switched(funct6: u32, index: u32, funct2: u32, rlist: u32) -> Transfer
+    ensures { λ t. ⌜ t ≡ switchedBy funct6 index funct2 rlist ⌝ }
+{
+    if funct6 == 0b10_1000 {
+        if index < 32 {
+            Transfer::DirectJump
+        } else {
+            Transfer::DirectCall
+        }
+    } else if funct6 == 0b10_1111 {
+        pop(funct2, rlist)
+    } else {
+        Transfer::None
+    }
+}
+
+// Whether a word has a code of C.FSDSP, among which are those of Zcmp and Zcmt.
+fn is_fsdsp(word: u32) -> bool
+    ensures { λ b. ⌜ b ≡ C·FSDSP word ⌝ }
+{
+    fields::c_op(word) == 2 && fields::c_funct3(word) == 5
+}
+
+// Whether the switch is on and a word has a code of C.FSDSP.
+fn is_switched(word: u32, zc: bool) -> bool
+    ensures { λ b. ⌜ b ≡ (zc && C·FSDSP word) ⌝ }
+{
+    if zc { is_fsdsp(word) } else { false }
+}
+
+// The transfer that a word is with the switch off. C.JR and C.JALR have 2 in their seven low bits: with rs2 not x0
+// they would be C.MV and C.ADD.
+fn plain_transfer(word: u32) -> Transfer
+    ensures { λ t. ⌜ t ≡ plainTransfer word ⌝ }
 {
     let op = fields::c_op(word);
     if op == 3 {
@@ -165,6 +228,39 @@ pub fn classify(word: u32) -> Transfer
         register_jump(fields::c_funct4(word), fields::c_rs1(word))
     } else {
         Transfer::None
+    }
+}
+
+// The transfer that a word is.
+fn transfer_of(word: u32, zc: bool) -> Transfer
+    ensures { λ t. ⌜ t ≡ transferOf zc word ⌝ }
+{
+    if is_switched(word, zc) {
+        switched(
+            fields::cm_funct6(word),
+            fields::cm_index(word),
+            fields::cm_funct2(word),
+            fields::cm_rlist(word),
+        )
+    } else {
+        plain_transfer(word)
+    }
+}
+
+// The length of a word's instruction in bytes.
+pub fn length(word: u32) -> u8
+    ensures { λ n. ⌜ n ≡ lengthOf word ⌝ }
+{
+    if fields::c_op(word) == 3 { 4 } else { 2 }
+}
+
+// What an instruction word is. The switch zc says whether the machine has Zcmp and Zcmt.
+pub fn classify(word: u32, zc: bool) -> Instruction
+    ensures { λ i. ⌜ i ≡ instructionOf zc word ⌝ }
+{
+    Instruction {
+        transfer: transfer_of(word, zc),
+        length: length(word),
     }
 }
 

@@ -18,29 +18,29 @@ pub fn least(a: usize, b: usize) -> usize
 }
 
 // One by one.
-pub fn sort_short(words: &[u32], types: &mut [u8]) -> usize
+pub fn sort_short(words: &[u32], zc: bool, types: &mut [u8]) -> usize
     ensures count { λ r. ⌜ r ≡ min (length (now (words .entry))) (length (now (types .entry))) ⌝ }
-    ensures filled { λ r. ⌜ now (types .exit) ≡ classified (now (words .entry)) (now (types .entry)) ⌝ }
+    ensures filled { λ r. ⌜ now (types .exit) ≡ classified zc (now (words .entry)) (now (types .entry)) ⌝ }
 {
     let n = least(words.len(), types.len());
     let mut i = 0;
     while i < n {
-        types[i] = crate::exports::ctr_classify(words[i], true);
+        types[i] = crate::exports::ctr_classify(words[i], true, zc);
         i += 1;
     }
     n
 }
 
-// By a filled table.
-pub fn sort_long(table: &[u8; CELLS], words: &[u32], types: &mut [u8]) -> usize
-    requires { ⌜ Table (now table) ⌝ }
+// By a table that was filled with the switch zc, which stands here for the contract alone.
+pub fn sort_long(table: &[u8; CELLS], words: &[u32], zc: bool, types: &mut [u8]) -> usize
+    requires { ⌜ Table zc (now table) ⌝ }
     ensures count { λ r. ⌜ r ≡ min (length (now (words .entry))) (length (now (types .entry))) ⌝ }
-    ensures filled { λ r. ⌜ now (types .exit) ≡ classified (now (words .entry)) (now (types .entry)) ⌝ }
+    ensures filled { λ r. ⌜ now (types .exit) ≡ classified zc (now (words .entry)) (now (types .entry)) ⌝ }
 {
     let n = least(words.len(), types.len());
     let mut i = 0;
     while i < n {
-        types[i] = look_up(table, words[i]);
+        types[i] = look_up(table, zc, words[i]);
         i += 1;
     }
     n

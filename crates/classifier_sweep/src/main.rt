@@ -1,14 +1,27 @@
-// Classifies whole groups of words and prints, for each group, how many words have each type and a
-// digest of words and types. The gate compares it with what the model prints.
+// Classifies whole groups of words, with the switch off and on, and prints, for each group, how many
+// words have each type and each length and a digest of words, types and lengths. The gate compares it
+// with what the model prints.
+use classifier::exports::ctr_classify;
+use classifier::exports::ctr_classify_all;
+use classifier::exports::ctr_length;
 use libc::STDOUT_FILENO;
+use std::num::wrapping_add_u32;
+use std::num::wrapping_add_u64;
+use std::num::wrapping_sub_u64;
 use test_support::SEED;
+use test_support::digest;
+use test_support::xorshift64;
 
 // What was seen of a group.
 struct Tally {
     words: u64,
     counts: [u64; 16],
+    long: u64,
     digest: u64,
 }
+
+// How many words a run has; it is sorted by a table.
+const RUN: usize = 16384;
 
 // The bits of a word that its group leaves free.
 const PATTERNS: [u32; 6] = [
@@ -64,29 +77,72 @@ fn widened(x: u32) -> u64 {
     x as u64
 }
 
-// The tally with one word more, a branch as taken.
-fn tallied(t: Tally, word: u32) -> Tally {
-    let kind = classifier::exports::ctr_classify(word, true);
+fn no_words() -> Tally {
+    Tally {
+        words: 0,
+        counts: [0; 16],
+        long: 0,
+        digest: 0,
+    }
+}
+
+// The tally with one word more, which has a type, a branch as taken.
+fn tallied(t: Tally, word: u32, kind: u8) -> Tally {
+    let length = ctr_length(word);
     let k = (kind % 16) as usize;
     let mut next = t;
-    next.words = std::num::wrapping_add_u64(next.words, 1);
-    next.counts[k] = std::num::wrapping_add_u64(next.counts[k], 1);
-    let h = test_support::digest(next.digest, widened(word));
-    next.digest = test_support::digest(h, kind as u64);
+    next.words = wrapping_add_u64(next.words, 1);
+    next.counts[k] = wrapping_add_u64(next.counts[k], 1);
+    if length == 4 {
+        next.long = wrapping_add_u64(next.long, 1);
+    }
+    let h = digest(next.digest, widened(word));
+    next.digest = digest(digest(h, kind as u64), length as u64);
     next
 }
 
-fn sweep(group: u32, words: u32) -> Tally {
-    let mut t = Tally {
-        words: 0,
-        counts: [0; 16],
-        digest: 0,
-    };
+// Words one after the other, from the first.
+fn fill(words: &mut [u32], first: u32) {
+    let mut word = first;
+    let mut i = 0;
+    while i < words.len() {
+        words[i] = word;
+        word = wrapping_add_u32(word, 1);
+        i += 1;
+    }
+}
+
+fn tallied_run(t: Tally, words: &[u32], types: &[u8]) -> Tally {
+    let mut next = t;
+    let mut i = 0;
+    while i < words.len() && i < types.len() {
+        next = tallied(next, words[i], types[i]);
+        i += 1;
+    }
+    next
+}
+
+// All low halves, sorted in four runs.
+fn sweep_runs(zc: bool) -> Tally {
+    let mut words = [0; RUN];
+    let mut types = [0; RUN];
+    let mut t = no_words();
+    for run in 0..4 {
+        fill(&mut words, 16384 * run);
+        ctr_classify_all(&words, zc, &mut types);
+        t = tallied_run(t, &words, &types);
+    }
+    t
+}
+
+fn sweep(group: u32, words: u32, zc: bool) -> Tally {
+    let mut t = no_words();
     let mut random = SEED;
     let mut i: u32 = 0;
     while i < words {
-        random = test_support::xorshift64(random);
-        t = tallied(t, word_of(group, i, random));
+        random = xorshift64(random);
+        let word = word_of(group, i, random);
+        t = tallied(t, word, ctr_classify(word, true, zc));
         i += 1;
     }
     t
@@ -118,26 +174,50 @@ fn put_types(out: &mut [u8], at: usize, counts: [u64; 16]) -> usize {
     next
 }
 
-fn report(name: &[u8], t: Tally) {
+// How many words have each length.
+fn put_lengths(out: &mut [u8], at: usize, words: u64, long: u64) -> usize {
+    let mut next = text::put(out, at, b"  length 2");
+    next = put_count(out, next, wrapping_sub_u64(words, long));
+    next = text::put(out, next, b"  length 4");
+    put_count(out, next, long)
+}
+
+fn put_switch(out: &mut [u8], at: usize, zc: bool) -> usize {
+    if zc {
+        text::put(out, at, b", switch on\n")
+    } else {
+        text::put(out, at, b", switch off\n")
+    }
+}
+
+fn report(name: &[u8], zc: bool, t: Tally) {
     let mut out = [0u8; 1024];
     let mut at = text::put(&mut out, 0, name);
-    at = text::put(&mut out, at, b"\n  words");
+    at = put_switch(&mut out, at, zc);
+    at = text::put(&mut out, at, b"  words");
     at = put_count(&mut out, at, t.words);
     let counts = t.counts;
     at = put_types(&mut out, at, counts);
+    at = put_lengths(&mut out, at, t.words, t.long);
     at = text::put(&mut out, at, b"  digest 0x");
     at = text::put_hex(&mut out, at, t.digest, 16);
     at = text::put_byte(&mut out, at, b'\n');
     io::write_all(STDOUT_FILENO, text::before(&out, at));
 }
 
+fn report_all(zc: bool) {
+    report(b"low halves under 0x0000", zc, sweep(0, 65536, zc));
+    report(b"low halves under 0xffff", zc, sweep(1, 65536, zc));
+    report(b"low halves under 0x0002", zc, sweep(2, 65536, zc));
+    report(b"low halves under 0xa5a8", zc, sweep(3, 65536, zc));
+    report(b"low halves in runs", zc, sweep_runs(zc));
+    report(b"jalr", zc, sweep(4, 49152, zc));
+    report(b"jal", zc, sweep(5, 192, zc));
+    report(b"branch", zc, sweep(6, 1536, zc));
+    report(b"random", zc, sweep(7, 100000, zc));
+}
+
 fn main() {
-    report(b"low halves under 0x0000", sweep(0, 65536));
-    report(b"low halves under 0xffff", sweep(1, 65536));
-    report(b"low halves under 0x0002", sweep(2, 65536));
-    report(b"low halves under 0xa5a8", sweep(3, 65536));
-    report(b"jalr", sweep(4, 49152));
-    report(b"jal", sweep(5, 192));
-    report(b"branch", sweep(6, 1536));
-    report(b"random", sweep(7, 100000));
+    report_all(false);
+    report_all(true);
 }

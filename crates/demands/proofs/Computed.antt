@@ -45,6 +45,7 @@ fresh =
       selects = record { siselect = 0; vsiselect = 0 };
       enables = record { mstateen0 = false; hstateen0 = false };
       cycles = record { counter = 0; ccv = false };
+      constants = record { zc = false };
     })
     zeros
 
@@ -68,12 +69,12 @@ Shown =
     (stepOf fresh call .value ≡ 1)
     × (stepOf later call .value ≡ 1)
     × (Useless.allZero (later .ctrsource) ≡ false)
-    × (stepOf resetState host .number ≡ 0)
+    × (stepOf (resetState false) host .number ≡ 0)
 
 pub computed : BenchTable × Shown
-unfolding Words.keep Words.joined Classifier.transferOf Controls.isSet EntryBits.definedOf Modes.controlOf Modes.onOf Modes.governingOf Filters.freezesOf Filters.externalToS Filters.externalToM Filters.externalOf Filters.inhibitBit Filters.inhibitedOf Depths.depthOf Depths.physicalOf Good.goodBuffer Good.goodControls Good.goodOf Numbers.registerOf Numbers.supervisorRegister Numbers.guestRegister Numbers.viewIn Numbers.csrIn AccessSteps.firstStep AccessSteps.inWindow AccessSteps.refusalOf AccessSteps.step2 AccessSteps.step3 AccessSteps.step5 AccessSteps.factsOf Readings.controlReading Readings.entryReading Readings.isEntry Readings.readingOf Readings.statusOf Readings.storedOf Readings.wordOf Writes.controlWritten Writes.selectWritten Writes.depthWritten Writes.statusWritten Writes.registersWritten Writes.withStored Writes.withWord Writes.entryWritten Writes.effectWritten Accesses.operandOf Accesses.writeOf Accesses.operatedOf Accesses.grantedOf Accesses.accessTo Accesses.accessOf Accesses.accessFocus Accesses.hostOf Counts.liveCycles Counts.cyclesOf Counts.exponentOf Counts.mantissaOf Counts.stamped Records.entryFor Records.sidePc Records.popped Records.advanced Records.retreated Outcomes.rasemuOf Outcomes.stackOutcome Outcomes.onOutcome Outcomes.liveOf Outcomes.liveOutcome Outcomes.retiredOutcome Outcomes.trapBy Outcomes.trapOutcome Outcomes.returnBy Outcomes.returnOutcome Transfers.outcomeFocus Transfers.doneOf Transfers.retiredOf Transfers.crossing Transfers.crossedOf Transfers.takenTrap Transfers.trapOf Transfers.takenReturn Transfers.returnOf Events.typeIn Events.focusOf Decisions.eventOf Decisions.decideOf Entries.appliedOf Steps.decidedOf Steps.appliedTo Steps.stepOf Steps.resetState Runs.answersTo Runs.endOf Bench.noneRefused Useless.allZero
+unfolding Words.keep Words.joined Classifier.plainTransfer Classifier.transferOf Controls.isSet EntryBits.definedOf Modes.controlOf Modes.onOf Modes.governingOf Filters.freezesOf Filters.externalToS Filters.externalToM Filters.externalOf Filters.inhibitBit Filters.inhibitedOf Depths.depthOf Depths.physicalOf Good.goodBuffer Good.goodControls Good.goodOf Numbers.registerOf Numbers.supervisorRegister Numbers.guestRegister Numbers.viewIn Numbers.csrIn AccessSteps.firstStep AccessSteps.inWindow AccessSteps.refusalOf AccessSteps.step2 AccessSteps.step3 AccessSteps.step5 AccessSteps.factsOf Readings.controlReading Readings.entryReading Readings.isEntry Readings.readingOf Readings.statusOf Readings.storedOf Readings.wordOf Writes.controlWritten Writes.selectWritten Writes.depthWritten Writes.statusWritten Writes.registersWritten Writes.withStored Writes.withWord Writes.entryWritten Writes.effectWritten Accesses.operandOf Accesses.writeOf Accesses.operatedOf Accesses.grantedOf Accesses.accessTo Accesses.accessOf Accesses.accessFocus Accesses.hostOf Counts.liveCycles Counts.cyclesOf Counts.exponentOf Counts.mantissaOf Counts.stamped Records.entryFor Records.sidePc Records.popped Records.advanced Records.retreated Outcomes.rasemuOf Outcomes.stackOutcome Outcomes.onOutcome Outcomes.liveOf Outcomes.liveOutcome Outcomes.retiredOutcome Outcomes.trapBy Outcomes.trapOutcome Outcomes.returnBy Outcomes.returnOutcome Transfers.outcomeFocus Transfers.doneOf Transfers.retiredOf Transfers.crossing Transfers.crossedOf Transfers.takenTrap Transfers.trapOf Transfers.takenReturn Transfers.returnOf Events.typeIn Events.focusOf Decisions.eventOf Decisions.decideOf Entries.appliedOf Steps.decidedOf Steps.appliedTo Steps.stepOf Steps.resetState Runs.answersTo Runs.endOf Bench.noneRefused Useless.allZero
 computed = (
-  (vectors, ((refl, refl, refl), refl), ((refl, refl, refl), refl), (refl, refl, refl), refl, ((refl, refl, refl), refl), refl, (refl, refl, refl), refl, refl, ((refl, refl, refl), refl), ((refl, refl, refl), refl), ((refl, refl, refl), refl), ((refl, refl, refl), refl), (refl, refl, refl), refl, refl, (refl, refl, refl), refl, (refl, refl, refl), refl, refl, refl, (refl, refl, refl), refl, refl),
+  (vectors, ((refl, refl, refl), refl), ((refl, refl, refl), refl), (refl, refl, refl), refl, ((refl, refl, refl), refl), refl, (refl, refl, refl), refl, refl, ((refl, refl, refl), refl), ((refl, refl, refl), refl), ((refl, refl, refl), refl), ((refl, refl, refl), refl), (refl, refl, refl), refl, refl, (refl, refl, refl), refl, (refl, refl, refl), refl, refl, refl, (refl, refl, refl), refl, refl, refl, refl, refl, refl),
   (refl, refl, refl, refl),
 )
 

@@ -74,12 +74,12 @@ counted-in n x l p q =
 
 -- what is recorded has a type of four bits
 typed : {r : Registers} {e : Event} → Qualifies r e → (t : ℕ) × (t < 16) × (recordOf r e .ctrdata ≡ ctrdataOf r e t)
-typed (retired {w = w} z x o a) = (_, word-small (transferOf (w .word)) (w .taken), refl)
+typed (retired {w = w} z x o a) = (_, word-small (transferOf _ (w .word)) (w .taken), refl)
 typed (on-to-on {t = t} p x o m a) = (_, trap-small (t .interrupt), refl)
 typed (off-to-on {t = t} p x o m a) = (_, trap-small (t .interrupt), refl)
 typed (on-to-off {t = t} p x o m a) = (_, trap-small (t .interrupt), refl)
 typed (return p z x o a) = (3, omega arith, refl)
-typed (call {w = w} z x o t) = (_, word-small (transferOf (w .word)) (w .taken), refl)
+typed (call {w = w} z x o t) = (_, word-small (transferOf _ (w .word)) (w .taken), refl)
 
 recorded : {r : Registers} {s : State} {e : Event} {t : Stepped} → Qualifies r e → Demand2At s e t → TransferAt s e t
 recorded (retired z x o a) d = d

@@ -107,7 +107,7 @@ pub only-recorder : OnlyRecorder
 unfolding resetState
 only-recorder =
     record {
-      reset = refl;
+      reset = (λ zc. refl);
       demand-1 = demand-1;
       demand-2 = demand-2;
       only = (λ f a b s e. determined s e (f s e) (stepOf s e) (a s e) (b .events s e) (demand-1 s e) (events s e));

@@ -207,7 +207,7 @@ retired-steps s w f =
     let r = s .registers in
     let o = retiredOutcome r (typeIn r w) in
     rw (free r .to f, ← stays r (entryAt (entriesIn s) (Done.outcomeFocus (r .buffer) o)) (entryFor (w .pc) (w .target) (w .mispredicted) (typeIn r w)) (rasemuOf r (r .mode) (r .mode)) (w .cycles) o)
-    (does s (Retired w) f (w .pc) (w .target) (w .mispredicted) refl (typeIn r w) (word-small (transferOf (w .word)) (w .taken)) refl o (says r (Retired w)))
+    (does s (Retired w) f (w .pc) (w .target) (w .mispredicted) refl (typeIn r w) (word-small (transferOf (r .constants .zc) (w .word)) (w .taken)) refl o (says r (Retired w)))
 
 trap-steps : (s : State) (t : TrapTo) → Free (s .registers) → Traps (s .registers .mode) (t .mode) → Steps s (Trap t)
 unfolding stepOf appliedTo decidedOf decideOf eventOf focusOf trapOf takenTrap crossedOf crossing outcomeIn

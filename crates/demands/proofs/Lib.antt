@@ -23,5 +23,6 @@ pub mod Changes
 pub mod Computed
 pub mod Parts
 pub mod Counted
+pub mod Constant
 pub mod Useless
 pub mod CodeRuns

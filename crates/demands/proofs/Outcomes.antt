@@ -88,12 +88,12 @@ freezes-outcome {r = r} (LCOFIFRZ {t = t} p i c h) = rw (traps (r .mode) (t .mod
 
 -- and each outcome comes of its relation
 emulated : (r : Registers) (w : RetiredWord) → r .buffer .frozen ≡ false → RASEMU r (Retired w) ≡ 1 → On r (r .mode)
-    → Says r (Retired w) (stackOutcome (wordType (w .word) (w .taken)))
+    → Says r (Retired w) (stackOutcome (wordType (r .constants .zc) (w .word) (w .taken)))
 unfolding stackOutcome
 emulated r w f m o = go (eqb n 8) refl (eqb n 9) refl (eqb n 12) refl (eqb n 13) refl
   where
     n : ℕ
-    n = wordType (w .word) (w .taken)
+    n = wordType (r .constants .zc) (w .word) (w .taken)
 
     go : (a : Bool) → eqb n 8 ≡ a → (b : Bool) → eqb n 9 ≡ b → (c : Bool) → eqb n 12 ≡ c → (d : Bool) → eqb n 13 ≡ d
         → Says r (Retired w) (if a then Record else (if b then Record else (if c then Swap else (if d then Pop else Nothing))))
@@ -117,7 +117,7 @@ retired-says r w = go (onOf r m) refl (r .buffer .frozen) refl (rasemuOf r m m) 
     c = governingOf m m
 
     n : ℕ
-    n = wordType (w .word) (w .taken)
+    n = wordType (r .constants .zc) (w .word) (w .taken)
 
     go : (on : Bool) → onOf r m ≡ on → (fr : Bool) → r .buffer .frozen ≡ fr → (ra : Bool) → rasemuOf r m m ≡ ra
         → (inh : Bool) → inhibitedOf r c n ≡ inh
@@ -126,7 +126,7 @@ retired-says r w = go (onOf r m) refl (r .buffer .frozen) refl (rasemuOf r m m) 
     go true o false f false a true i = tt
     go true o false f false a false i =
         retired f (rasemu r e .is-off a) (mode r m .is-on o)
-        (allows-word r (otherFields r e) (transferOf (w .word)) (w .taken) (rw (governing-is r e) at i))
+        (allows-word r (otherFields r e) (transferOf (r .constants .zc) (w .word)) (w .taken) (rw (governing-is r e) at i))
     go true o true f ra a inh i = tt
     go false o fr f ra a inh i = tt
 

@@ -1,5 +1,6 @@
 -- None of the five useless recorders meets the demand that is named for it: each is shown a call in M with M on, or the host's event.
 -- Assumes nothing.
+use mathlib.Core.Bool.{false}
 use mathlib.Core.Path.{_≡_, sym, ap, _∙_}
 use native.Mathlib.Omega.{arith}
 use Rattle.recorder.specs.Runs.{Recorder}
@@ -34,7 +35,7 @@ module _ (f : Recorder) where
   pub useless : Useless f
   useless =
       record {
-        refuses-all = (λ h d. h resetState host (d resetState host .zero .1 (only-recorder .demand-1 resetState host .zero .0 (shown .3))));
+        refuses-all = (λ h d. h (resetState false) host (d (resetState false) host .zero .1 (only-recorder .demand-1 (resetState false) host .zero .0 (shown .3))));
         says-nothing = (λ h d. omega (arith, h fresh word, says-1 d));
         never-changes = (λ h d. moves d (h fresh word));
         coasting = (λ h d. omega (arith, h later word (shown .2), later-1 d));

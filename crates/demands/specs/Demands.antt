@@ -92,8 +92,9 @@ pub record Demand2 (f : Recorder) : Type 0 where
   pub events : (s : State) (e : Event) → Demand2At s e (f s e)
   pub ireg : (s : State) (a : CsrAccess) (v : View) (k : ℕ) → Reaches (a .number) (Ireg v k) → f s (Access a) .number ≡ 0
       → Shows s (selected (s .registers) v) k (f s (Access a) .value)
-  -- the type of a retired word is the number of its row in the table of words, by the classifier's promise
-  pub types : (w : ℕ) (taken : Bool) (n : ℕ) → wordType w taken ≡ n ↔ HasType w taken n
+  -- the type of a retired word is the number of its row in the table of words, by the classifier's promise, with the switch of Zcmp
+  -- and Zcmt on or off
+  pub types : (zc : Bool) (w : ℕ) (taken : Bool) (n : ℕ) → wordType zc w taken ≡ n ↔ HasType zc w taken n
 
 -- the rules leave no choice: at every state, whole or not, and every event, two results that meet both demands are equal
 abbrev pub Determined : Type 0
@@ -102,7 +103,7 @@ Determined =
 
 -- so there is one recorder that meets both, and it is `stepOf`; it starts where the rules say
 pub record OnlyRecorder : Type 0 where
-  pub reset : resetState ≡ start
+  pub reset : (zc : Bool) → resetState zc ≡ start zc
   pub demand-1 : Demand1 stepOf
   pub demand-2 : Demand2 stepOf
   pub only : (f : Recorder) → Demand1 f → Demand2 f → (s : State) (e : Event) → f s e ≡ stepOf s e

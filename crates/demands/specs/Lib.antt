@@ -10,6 +10,7 @@ pub mod Rows
 pub mod Replays
 pub mod Changes
 pub mod Counted
+pub mod Constant
 pub mod Useless
 pub mod CodeRuns
 pub mod BenchTable

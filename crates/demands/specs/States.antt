@@ -29,9 +29,9 @@ Is1 x n = bitAt x n ≡ 1
 abbrev pub zeros : Entries
 zeros = entriesOf (replicate 256 0) (replicate 256 0) (replicate 256 0)
 
--- at reset the mode is M and all else is 0
-abbrev pub start : State
-start =
+-- at reset the mode is M, the switch of Zcmp and Zcmt as it is fixed there, and all else is 0
+abbrev pub start : Bool → State
+start zc =
     stateOf (record {
       mode = M;
       controls = record { mctrctl = 0; vsctrctl = 0 };
@@ -39,6 +39,7 @@ start =
       selects = record { siselect = 0; vsiselect = 0 };
       enables = record { mstateen0 = false; hstateen0 = false };
       cycles = record { counter = 0; ccv = false };
+      constants = record { zc = zc };
     })
     zeros
 
@@ -141,7 +142,15 @@ Impossible r (Host h) = ⊥
 -- the registers with one of them changed, and all others as they were
 abbrev pub modeTo : Mode → Registers → Registers
 modeTo m r =
-    record { mode = m; controls = r .controls; buffer = r .buffer; selects = r .selects; enables = r .enables; cycles = r .cycles }
+    record {
+      mode = m;
+      controls = r .controls;
+      buffer = r .buffer;
+      selects = r .selects;
+      enables = r .enables;
+      cycles = r .cycles;
+      constants = r .constants;
+    }
 
 abbrev controlsTo : ℕ → ℕ → Registers → Registers
 controlsTo m v r =
@@ -152,6 +161,7 @@ controlsTo m v r =
       selects = r .selects;
       enables = r .enables;
       cycles = r .cycles;
+      constants = r .constants;
     }
 
 abbrev pub mctrctlTo : ℕ → Registers → Registers
@@ -169,6 +179,7 @@ bufferTo c w f r =
       selects = r .selects;
       enables = r .enables;
       cycles = r .cycles;
+      constants = r .constants;
     }
 
 abbrev pub codeTo : ℕ → Registers → Registers
@@ -189,6 +200,7 @@ selectsTo s v r =
       selects = record { siselect = s; vsiselect = v };
       enables = r .enables;
       cycles = r .cycles;
+      constants = r .constants;
     }
 
 abbrev pub siselectTo : ℕ → Registers → Registers
@@ -207,6 +219,7 @@ enablesTo e r =
       selects = r .selects;
       enables = record { mstateen0 = e .mstateen0; hstateen0 = e .hstateen0 };
       cycles = r .cycles;
+      constants = r .constants;
     }
 
 -- the cycle counter, and the CCV that an ordinary record would now get
@@ -219,4 +232,5 @@ cyclesTo n ccv r =
       selects = r .selects;
       enables = r .enables;
       cycles = record { counter = n; ccv = ccv };
+      constants = r .constants;
     }

@@ -133,15 +133,15 @@ pub record Passes (r : Registers) (t : TrapTo) : Type 0 where
   pub freezes-not : Freezes r (Trap t) → ⊥
   pub frozen-not : r .buffer .frozen ≡ false
 
--- the type of a retired word, by its row in the table of words
-abbrev typeOf : RetiredWord → ℕ
-typeOf w = wordType (w .word) (w .taken)
+-- the type of a retired word, by its row in the table of words, with the state's switch of Zcmp and Zcmt on or off
+abbrev typeOf : Registers → RetiredWord → ℕ
+typeOf r w = wordType (r .constants .zc) (w .word) (w .taken)
 
 -- when a transfer is recorded: never while FROZEN is 1
 pub data Qualifies (r : Registers) : Event → Type 0 where
   -- RASEMU 0: a retired transfer if its mode is on and its type isn't inhibited
   retired : {w : RetiredWord}
-      → r .buffer .frozen ≡ false → RASEMU r (Retired w) ≡ 0 → On r (r .mode) → Allows r (otherFields r (Retired w)) (typeOf w)
+      → r .buffer .frozen ≡ false → RASEMU r (Retired w) ≡ 0 → On r (r .mode) → Allows r (otherFields r (Retired w)) (typeOf r w)
       → Qualifies r (Retired w)
   -- RASEMU 0: a trap from a mode that is on into one that is on, unless EXCINH or INTRINH inhibits it
   on-to-on : {t : TrapTo}
@@ -161,17 +161,17 @@ pub data Qualifies (r : Registers) : Event → Type 0 where
       → Allows r (otherFields r (TrapReturn t)) 3 → Qualifies r (TrapReturn t)
   -- RASEMU 1, in a mode that is on, inhibits not asked: types 8 and 9
   call : {w : RetiredWord}
-      → r .buffer .frozen ≡ false → RASEMU r (Retired w) ≡ 1 → On r (r .mode) → (typeOf w ≡ 8) ⊎ (typeOf w ≡ 9)
+      → r .buffer .frozen ≡ false → RASEMU r (Retired w) ≡ 1 → On r (r .mode) → (typeOf r w ≡ 8) ⊎ (typeOf r w ≡ 9)
       → Qualifies r (Retired w)
 
 -- RASEMU 1, in a mode that is on: type 13 pops, and type 12 swaps in place
 pub data Pops (r : Registers) : Event → Type 0 where
   type-13 : {w : RetiredWord}
-      → r .buffer .frozen ≡ false → RASEMU r (Retired w) ≡ 1 → On r (r .mode) → typeOf w ≡ 13 → Pops r (Retired w)
+      → r .buffer .frozen ≡ false → RASEMU r (Retired w) ≡ 1 → On r (r .mode) → typeOf r w ≡ 13 → Pops r (Retired w)
 
 pub data Swaps (r : Registers) : Event → Type 0 where
   type-12 : {w : RetiredWord}
-      → r .buffer .frozen ≡ false → RASEMU r (Retired w) ≡ 1 → On r (r .mode) → typeOf w ≡ 12 → Swaps r (Retired w)
+      → r .buffer .frozen ≡ false → RASEMU r (Retired w) ≡ 1 → On r (r .mode) → typeOf r w ≡ 12 → Swaps r (Retired w)
 
 -- the cycles of a retired word, a trap or a return: those spent since the event before it
 abbrev pub cyclesOf : Event → ℕ
@@ -231,7 +231,7 @@ entryOf r e pc target type =
 
 -- what an event records, or puts in place of logical entry 0, if it does; accesses, SCTRCLR and the host's event never do
 abbrev pub recordOf : Registers → Event → Entry
-recordOf r (Retired w) = entryOf r (Retired w) (w .pc) (w .target) (typeOf w)
+recordOf r (Retired w) = entryOf r (Retired w) (w .pc) (w .target) (typeOf r w)
 recordOf r (Trap t) =
     entryOf r (Trap t) (sideOf (switch r (r .mode)) (t .epc)) (sideOf (switch r (t .mode)) (t .handler)) (trapType (t .interrupt))
 recordOf r (TrapReturn t) =

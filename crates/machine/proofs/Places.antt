@@ -30,4 +30,4 @@ in-use code w i = mod-lt _ (depth-pos code)
 
 pub places : Places
 unfolding goodOf goodBuffer goodControls depthOf keep
-places = record { all = refl; window = refl; kept = refl; logical = logical; in-use = in-use; reset = refl }
+places = record { all = refl; window = refl; kept = refl; logical = logical; in-use = in-use; reset = (λ zc. refl) }

@@ -1,7 +1,7 @@
 -- What holds of places: the masks are made of the named bits, and logical entries lie below WRPTR. Proved in proofs/.
 use Prim.Native.Nat.{ℕ, _+_, _%_, _^_, _<_}
 use mathlib.Core.Path.{_≡_}
-use mathlib.Core.Bool.{true}
+use mathlib.Core.Bool.{Bool, true}
 use Rattle.machine.specs.Controls.{placeOf, mctrctlMask, sctrctlMask, machineMask}
 use Rattle.machine.specs.Regs.{resetRegisters}
 use Rattle.machine.specs.Depths.{depthOf, physicalOf}
@@ -42,4 +42,4 @@ pub record Places : Type 0 where
   pub logical : (code wrptr i : ℕ) → (physicalOf code wrptr i + (1 + i)) % depthOf code ≡ wrptr % depthOf code
   pub in-use : (code wrptr i : ℕ) → physicalOf code wrptr i < depthOf code
   -- reset is free of number 5
-  pub reset : goodOf resetRegisters ≡ true
+  pub reset : (zc : Bool) → goodOf (resetRegisters zc) ≡ true

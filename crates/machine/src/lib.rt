@@ -75,6 +75,11 @@ pub struct Cycles {
     pub ccv: bool,
 }
 
+// What is fixed at reset and no event changes: whether the machine has Zcmp and Zcmt.
+pub struct Constants {
+    pub zc: bool,
+}
+
 // All small state, in groups. Any value of the fields is possible.
 pub struct Registers {
     pub mode: Mode,
@@ -83,6 +88,7 @@ pub struct Registers {
     pub selects: Selects,
     pub cycles: Cycles,
     pub enables: Enables,
+    pub constants: Constants,
 }
 
 // The three words of an entry.

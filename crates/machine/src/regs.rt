@@ -2,6 +2,7 @@
 ghost use mathlib.Core.Path.{_≡_};
 ghost use Rattle.machine.specs.Regs.{resetRegisters, withMode, withControls, withBuffer, withSelects, withWrptr, withFrozen, withEnables, withCycles, noCycles};
 use crate::Buffer;
+use crate::Constants;
 use crate::ControlWords;
 use crate::Cycles;
 use crate::Enables;
@@ -19,8 +20,9 @@ pub fn no_cycles() -> Cycles
     }
 }
 
-pub fn reset() -> Registers
-    ensures { λ r. ⌜ r ≡ resetRegisters ⌝ }
+// The registers at reset, with the switch zc.
+pub fn reset(zc: bool) -> Registers
+    ensures { λ r. ⌜ r ≡ resetRegisters zc ⌝ }
 {
     let controls = ControlWords {
         mctrctl: 0,
@@ -43,6 +45,7 @@ pub fn reset() -> Registers
         counter: 0,
         ccv: false,
     };
+    let constants = Constants { zc };
     Registers {
         mode: Mode::M,
         controls,
@@ -50,6 +53,7 @@ pub fn reset() -> Registers
         selects,
         enables,
         cycles,
+        constants,
     }
 }
 
@@ -61,6 +65,7 @@ pub fn with_mode(r: Registers, m: Mode) -> Registers
     let selects = r.selects;
     let enables = r.enables;
     let cycles = r.cycles;
+    let constants = r.constants;
     Registers {
         mode: m,
         controls,
@@ -68,6 +73,7 @@ pub fn with_mode(r: Registers, m: Mode) -> Registers
         selects,
         enables,
         cycles,
+        constants,
     }
 }
 

@@ -11,9 +11,9 @@ use Rattle.transfers.specs.Transfers.{outcomeFocus}
 use Rattle.machine.specs.declared.Event.{Event}
 use Rattle.machine.specs.declared.Event.the-variants.{Retired, Trap, TrapReturn, Access, Sctrclr, Host}
 
--- the type of a retired word; 0 for none
+-- the type of a retired word, by the switch zc; 0 for none
 unfoldable pub typeIn : Registers → RetiredWord → ℕ
-typeIn r w = typeOf (transferOf (w .word)) (w .taken)
+typeIn r w = typeOf (transferOf (r .constants .zc) (w .word)) (w .taken)
 
 -- the physical entry at WRPTR
 abbrev pub atWrptr : Buffer → ℕ

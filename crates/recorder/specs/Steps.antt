@@ -52,9 +52,9 @@ answeredBy d = record { number = d .number; value = d .value; registers = d .reg
 abbrev pub stepped : Answered → Entries → Stepped
 stepped a w = record { number = a .number; value = a .value; state = stateOf (a .registers) w }
 
--- at reset the mode is M and all else is 0
-unfoldable pub resetState : State
-resetState = stateOf resetRegisters cleared
+-- at reset the mode is M, the switch zc as given, and all else is 0
+unfoldable pub resetState : Bool → State
+resetState zc = stateOf (resetRegisters zc) cleared
 
 -- a state whose three lists have a word for each entry: so every state of the code, and a step keeps it
 abbrev pub Whole : State → Type 0

@@ -124,7 +124,9 @@ fn widened(x: u8) -> u64
 fn word_type(r: Registers, w: RetiredWord) -> u64
     ensures { λ n. ⌜ n ≡ typeIn r w ⌝ }
 {
-    widened(classifier::type_number(classifier::classify(w.word), w.taken))
+    let i = classifier::classify(w.word, r.constants.zc);
+    let t = i.transfer;
+    widened(classifier::type_number(t, w.taken))
 }
 
 // An outcome, from registers with the counter as the event finds it, with the record e that it would put.

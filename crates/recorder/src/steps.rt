@@ -10,12 +10,12 @@ use crate::kinds;
 use machine::Event;
 use machine::Registers;
 
-// The state at reset.
-pub fn reset() -> State
-    ensures { λ s. ⌜ s ≡ resetState ⌝ }
+// The state at reset, with the switch zc.
+pub fn reset(zc: bool) -> State
+    ensures { λ s. ⌜ s ≡ resetState zc ⌝ }
     ensures whole { λ s. ⌜ Whole s ⌝ }
 {
-    let registers = machine::regs::reset();
+    let registers = machine::regs::reset(zc);
     State {
         registers,
         ctrsource: [0; ENTRIES],

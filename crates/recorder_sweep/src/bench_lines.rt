@@ -126,13 +126,13 @@ fn line(name: &[u8], s: State, e: Event) {
 }
 
 fn enables() {
-    let closed = sret(host(reset(), false, true), Mode::VS);
+    let closed = sret(host(reset(false), false, true), Mode::VS);
     line(
         b"VS reads sctrdepth with mstateen0.CTR 0",
         closed,
         read(SCTRDEPTH),
     );
-    let open = sret(host(reset(), true, true), Mode::VS);
+    let open = sret(host(reset(false), true, true), Mode::VS);
     line(
         b"VS reads sctrdepth with mstateen0.CTR 1",
         open,
@@ -142,7 +142,7 @@ fn enables() {
 
 // A word written to sireg under a selection, at the depth of a code.
 fn selected(code: u64, selection: u64) -> State {
-    let s = write(reset(), SCTRDEPTH, code);
+    let s = write(reset(false), SCTRDEPTH, code);
     write(write(s, SISELECT, selection), SIREG, 0xABCD)
 }
 
@@ -175,7 +175,7 @@ fn selections() {
 }
 
 fn controls() {
-    let all_ones = write(reset(), MCTRCTL, 0xFFFF_FFFF_FFFF_FFFF);
+    let all_ones = write(reset(false), MCTRCTL, 0xFFFF_FFFF_FFFF_FFFF);
     line(b"mctrctl after all ones", all_ones, read(MCTRCTL));
     let in_s = sret(host(all_ones, true, false), Mode::S);
     line(b"sctrctl read by S", in_s, read(SCTRCTL));
@@ -184,7 +184,7 @@ fn controls() {
 }
 
 fn status() {
-    let s = write(reset(), SCTRSTATUS, 0x8000_001F);
+    let s = write(reset(false), SCTRSTATUS, 0x8000_001F);
     line(
         b"sctrstatus after 0x8000001f at depth 16",
         s,
@@ -193,7 +193,7 @@ fn status() {
 }
 
 fn record() {
-    let before = write(write(reset(), MCTRCTL, 4), SCTRSTATUS, 15);
+    let before = write(write(reset(false), MCTRCTL, 4), SCTRSTATUS, 15);
     line(b"a record at WRPTR 15", before, jal());
     let recorded = after(before, jal());
     line(b"sctrstatus after it", recorded, read(SCTRSTATUS));
@@ -207,20 +207,20 @@ fn record() {
 fn depths() {
     line(
         b"sctrdepth after 7",
-        write(reset(), SCTRDEPTH, 7),
+        write(reset(false), SCTRDEPTH, 7),
         read(SCTRDEPTH),
     );
     line(
         b"sctrdepth after 8",
-        write(reset(), SCTRDEPTH, 8),
+        write(reset(false), SCTRDEPTH, 8),
         read(SCTRDEPTH),
     );
 }
 
 fn traps() {
-    let without = sret(write(reset(), MCTRCTL, 0x201), Mode::U);
+    let without = sret(write(reset(false), MCTRCTL, 0x201), Mode::U);
     line(b"U to M with MTE", without, trap_to(Mode::M));
-    let with = sret(write(reset(), MCTRCTL, 0x301), Mode::U);
+    let with = sret(write(reset(false), MCTRCTL, 0x301), Mode::U);
     line(b"U to M with MTE and STE", with, trap_to(Mode::M));
     let recorded = write(after(with, trap_to(Mode::M)), SISELECT, 0x200);
     line(b"its ctrsource", recorded, read(SIREG));
@@ -229,13 +229,13 @@ fn traps() {
 }
 
 fn trap_from_off() {
-    let in_s = sret(write(reset(), MCTRCTL, 4), Mode::S);
+    let in_s = sret(write(reset(false), MCTRCTL, 4), Mode::S);
     let in_m = after(in_s, trap_to(Mode::M));
     line(b"S off to M on", write(in_m, SISELECT, 0x200), read(SIREG));
 }
 
 fn emulated_return() {
-    let selected = write(write(reset(), MCTRCTL, 4), SISELECT, 0x200);
+    let selected = write(write(reset(false), MCTRCTL, 4), SISELECT, 0x200);
     let before = write(write(selected, SIREG, 0x1235), MCTRCTL, 0x84);
     line(
         b"a return under RASEMU at WRPTR 0",
@@ -257,14 +257,14 @@ fn emulated_return() {
 
 // Where another implementation departs from the ratified text (docs/PEERS.md).
 fn guest_traps() {
-    let inhibited = write(write(reset(), VSCTRCTL, 1), MCTRCTL, 0x2_0000_0002);
+    let inhibited = write(write(reset(false), VSCTRCTL, 1), MCTRCTL, 0x2_0000_0002);
     line(
         b"VU to S with EXCINH in mctrctl alone",
         sret(inhibited, Mode::VU),
         trap_to(Mode::S),
     );
     let external = write(
-        write(host(reset(), true, false), VSCTRCTL, 2),
+        write(host(reset(false), true, false), VSCTRCTL, 2),
         MCTRCTL,
         0x100,
     );
@@ -280,13 +280,13 @@ fn guest_traps() {
 
 // A return into a guest goes by vsctrctl.
 fn guest_entries() {
-    let inhibited = write(write(reset(), VSCTRCTL, 2), MCTRCTL, 0x8_0000_0002);
+    let inhibited = write(write(reset(false), VSCTRCTL, 2), MCTRCTL, 0x8_0000_0002);
     line(
         b"S to VS with TRETINH in mctrctl alone",
         sret(inhibited, Mode::S),
         return_to(Mode::VS),
     );
-    let emulated = write(write(reset(), VSCTRCTL, 0x82), MCTRCTL, 2);
+    let emulated = write(write(reset(false), VSCTRCTL, 0x82), MCTRCTL, 2);
     line(
         b"S to VS with RASEMU in vsctrctl alone",
         sret(emulated, Mode::S),
@@ -295,13 +295,13 @@ fn guest_entries() {
 }
 
 fn closed_windows() {
-    let in_s = sret(write(reset(), SISELECT, 0x200), Mode::S);
+    let in_s = sret(write(reset(false), SISELECT, 0x200), Mode::S);
     line(
         b"S reads sireg in the window with mstateen0.CTR 0",
         in_s,
         read(SIREG),
     );
-    let guest = write(host(reset(), true, false), VSISELECT, 0x200);
+    let guest = write(host(reset(false), true, false), VSISELECT, 0x200);
     line(
         b"VS reads sireg in the window with hstateen0.CTR 0",
         sret(guest, Mode::VS),
@@ -309,7 +309,7 @@ fn closed_windows() {
     );
     line(
         b"VU reads siselect",
-        sret(reset(), Mode::VU),
+        sret(reset(false), Mode::VU),
         read(SISELECT),
     );
 }

@@ -18,8 +18,9 @@ pub(crate) struct Drawn {
 }
 
 // Each type by each kind of word that has it, with x1, x5 and a register that is not link as rd and
-// as base; then words that are none.
-const WORDS: [u32; 32] = [
+// as base; then words that are none; then table jumps and pop-returns at their bounds, one with a
+// reserved rlist, and CM.PUSH.
+const WORDS: [u32; 40] = [
     0x0000_8067,
     0x0002_8067,
     0x0003_0067,
@@ -52,6 +53,14 @@ const WORDS: [u32; 32] = [
     0x0000_90E7,
     0x3020_0073,
     0x1040_0073,
+    0x0000_A002,
+    0x0000_A07E,
+    0x0000_A082,
+    0x0000_A3FE,
+    0x0000_BE42,
+    0x0000_BCFE,
+    0x0000_BE3E,
+    0x0000_B842,
 ];
 
 // Every listed CSR number; some that are not, beside them, at the ends of the ranges and far away;
@@ -146,7 +155,7 @@ pub(crate) fn address(x: u64) -> u64 {
 
 // One of eight is any word.
 fn word_of(w: u64) -> u32 {
-    let at = (w / 8 % 32) as usize;
+    let at = (w / 8 % 40) as usize;
     if w % 8 == 0 {
         (w / 8 % 0x1_0000_0000) as u32
     } else {
@@ -189,7 +198,7 @@ pub(crate) fn draw_word(random: u64) -> Drawn {
     let target = xorshift64(pc);
     let n = xorshift64(target);
     Drawn {
-        event: retired(w, address(pc), address(target), w / 256, n),
+        event: retired(w, address(pc), address(target), w / 320, n),
         random: n,
     }
 }

@@ -1,6 +1,7 @@
 // Random start states. What draws is given the last word drawn.
 use crate::edges::RASEMU_AND_TRETINH;
 use machine::Buffer;
+use machine::Constants;
 use machine::ControlWords;
 use machine::Cycles;
 use machine::Enables;
@@ -125,6 +126,9 @@ pub(crate) fn draw_registers(random: u64) -> Start {
     let d = xorshift64(c);
     let f = xorshift64(d);
     let g = xorshift64(f);
+    let constants = Constants {
+        zc: a / 204_800 % 2 == 1,
+    };
     let registers = Registers {
         mode: mode_of(a % 5),
         controls: spoiled_controls(good_controls(a, b, c), a / 12800),
@@ -132,6 +136,7 @@ pub(crate) fn draw_registers(random: u64) -> Start {
         selects: selects_of(f),
         enables: enables_of(a),
         cycles: spoiled_cycles(good_cycles(g), a / 12800, d),
+        constants,
     };
     Start {
         registers,

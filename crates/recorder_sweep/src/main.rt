@@ -10,6 +10,7 @@ mod events;
 mod mispredictions;
 mod pairs;
 mod random_run;
+mod switch;
 
 fn main() {
     bench_lines::report();

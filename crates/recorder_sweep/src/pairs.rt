@@ -35,6 +35,7 @@ use trace::codes::flag;
 struct Tally {
     random: u64,
     bad_starts: u64,
+    switched_on: u64,
     unequal_lengths: u64,
     empty_lists: u64,
     struck_to_nothing: u64,
@@ -266,10 +267,11 @@ fn ended(
     t
 }
 
-fn started(t: Tally, random: u64, good: bool) -> Tally {
+fn started(t: Tally, random: u64, good: bool, zc: bool) -> Tally {
     let mut next = t;
     next.random = random;
     next.bad_starts = wrapping_add_u64(next.bad_starts, flag(!good));
+    next.switched_on = wrapping_add_u64(next.switched_on, flag(zc));
     next
 }
 
@@ -308,7 +310,7 @@ fn run_pair(t: Tally) -> Tally {
         alone_in_a: 0,
         alone_in_b: 0,
         left: 0,
-        tally: started(t, choice, is_good(registers)),
+        tally: started(t, choice, is_good(registers), registers.constants.zc),
     };
     let turns = turns_of(choice);
     let q = run_turns(&mut ctrsource, &mut ctrtarget, &mut ctrdata, p, turns);
@@ -319,6 +321,7 @@ fn run_pairs() -> Tally {
     let mut t = Tally {
         random: SEED,
         bad_starts: 0,
+        switched_on: 0,
         unequal_lengths: 0,
         empty_lists: 0,
         struck_to_nothing: 0,
@@ -344,6 +347,7 @@ pub(crate) fn report() {
     let mut at = text::put(&mut out, 0, b"pairs\n");
     at = put_count(&mut out, at, b"  pairs ", PAIRS);
     at = put_count(&mut out, at, b"  bad starts ", t.bad_starts);
+    at = put_count(&mut out, at, b"  switched on ", t.switched_on);
     at = put_count(&mut out, at, b"  unequal lengths ", t.unequal_lengths);
     at = put_count(&mut out, at, b"  empty lists ", t.empty_lists);
     at = put_count(&mut out, at, b"  struck to nothing ", t.struck_to_nothing);

@@ -21,6 +21,10 @@ use crate::mispredictions::no_mispredictions;
 use crate::mispredictions::put_mispredictions;
 use crate::mispredictions::read_before;
 use crate::mispredictions::with_flags;
+use crate::switch::Switched;
+use crate::switch::no_switched;
+use crate::switch::put_switched;
+use crate::switch::with_switch;
 use libc::STDOUT_FILENO;
 use machine::Buffer;
 use machine::Event;
@@ -52,6 +56,7 @@ struct Tally {
     depths: Depths,
     counts: Counts,
     mispredictions: Mispredictions,
+    switched: Switched,
     answers: u64,
     states: u64,
 }
@@ -164,6 +169,17 @@ fn with_mispredictions(
     next
 }
 
+// What the switch met, likewise.
+fn with_switched(t: Tally, good: bool, e: Event, zc: bool, number: u64, value: u64) -> Tally {
+    let mut next = t;
+    if good && number == 0 {
+        let s = t.switched;
+        let switched = with_switch(s, e, zc, value);
+        next.switched = switched;
+    }
+    next
+}
+
 fn started(t: Tally, random: u64, good: bool) -> Tally {
     let mut next = t;
     next.random = random;
@@ -196,6 +212,7 @@ fn run_event(
     tally = with_depths(tally, l.good, ctrsource, b, after, value, deepest);
     tally = with_counts(tally, l.good, e, ctrdata, r, registers, a.number, a.value);
     tally = with_mispredictions(tally, l.good, e, r, old, a.number, a.value);
+    tally = with_switched(tally, l.good, e, r.constants.zc, a.number, a.value);
     tally.random = drawn.random;
     tally.frozen = wrapping_add_u64(tally.frozen, flag(r.buffer.frozen));
     tally.states = digest_state(tally.states, registers, ctrsource, ctrtarget, ctrdata);
@@ -241,6 +258,7 @@ fn run_lists() -> Tally {
         depths: no_depths(),
         counts: no_counts(),
         mispredictions: no_mispredictions(),
+        switched: no_switched(),
         answers: 0,
         states: 0,
     };
@@ -256,7 +274,7 @@ fn put_answers(out: &mut [u8], at: usize, numbers: [u64; 6], values: [u64; 5]) -
     put_counts(out, next, b"  value ", &values)
 }
 
-// The edges, the depths, the counts and the flags that were met.
+// The edges, the depths, the counts, the flags and the switched words that were met.
 fn put_met(
     out: &mut [u8],
     at: usize,
@@ -264,11 +282,13 @@ fn put_met(
     depths: Depths,
     counts: Counts,
     mispredictions: Mispredictions,
+    switched: Switched,
 ) -> usize {
     let mut next = put_edges(out, at, edges);
     next = put_depths(out, next, depths);
     next = put_counts_met(out, next, counts);
-    put_mispredictions(out, next, mispredictions)
+    next = put_mispredictions(out, next, mispredictions);
+    put_switched(out, next, switched)
 }
 
 pub(crate) fn report() {
@@ -285,8 +305,17 @@ pub(crate) fn report() {
     let depths = t.depths;
     let counts = t.counts;
     let mispredictions = t.mispredictions;
+    let switched = t.switched;
     at = put_answers(&mut out, at, numbers, values);
-    at = put_met(&mut out, at, edges, depths, counts, mispredictions);
+    at = put_met(
+        &mut out,
+        at,
+        edges,
+        depths,
+        counts,
+        mispredictions,
+        switched,
+    );
     at = put_word(&mut out, at, b"  answers 0x", t.answers);
     at = put_word(&mut out, at, b"  states 0x", t.states);
     io::write_all(STDOUT_FILENO, text::before(&out, at));

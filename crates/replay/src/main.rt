@@ -8,12 +8,14 @@ mod report;
 mod runs;
 
 use libc::STDOUT_FILENO;
+use text::is_same;
 
 // What an argument before the traces is.
 enum Flag {
     None,
     Answers,
     State,
+    Zc,
     Help,
     Unknown,
 }
@@ -23,24 +25,11 @@ enum Flag {
 struct Options {
     answers: bool,
     state: bool,
+    zc: bool,
     help: bool,
     is_known: bool,
     first: usize,
     several: bool,
-}
-
-fn is(argument: &[u8], name: &[u8]) -> bool {
-    if argument.len() != name.len() {
-        return false;
-    }
-    let mut i = 0;
-    while i < argument.len() && i < name.len() {
-        if argument[i] != name[i] {
-            return false;
-        }
-        i += 1;
-    }
-    true
 }
 
 fn begins_with_dash(argument: &[u8]) -> bool {
@@ -50,11 +39,13 @@ fn begins_with_dash(argument: &[u8]) -> bool {
 fn flag_of(argument: &[u8]) -> Flag {
     if !begins_with_dash(argument) {
         Flag::None
-    } else if is(argument, b"--answers") {
+    } else if is_same(argument, b"--answers") {
         Flag::Answers
-    } else if is(argument, b"--state") {
+    } else if is_same(argument, b"--state") {
         Flag::State
-    } else if is(argument, b"--help") {
+    } else if is_same(argument, b"--zc") {
+        Flag::Zc
+    } else if is_same(argument, b"--help") {
         Flag::Help
     } else {
         Flag::Unknown
@@ -68,6 +59,7 @@ fn with_argument(o: Options, i: usize, argument: &[u8]) -> Options {
         Flag::None => next.first = i,
         Flag::Answers => next.answers = true,
         Flag::State => next.state = true,
+        Flag::Zc => next.zc = true,
         Flag::Help => next.help = true,
         Flag::Unknown => {
             problems::unknown_flag(argument);
@@ -87,6 +79,7 @@ fn read_options(count: usize) -> Options {
     let mut o = Options {
         answers: false,
         state: false,
+        zc: false,
         help: false,
         is_known: true,
         first: count,
@@ -104,7 +97,7 @@ fn read_options(count: usize) -> Options {
 fn print_usage() {
     io::write_all(
         STDOUT_FILENO,
-        b"usage: replay [--answers] [--state] TRACE...\nReplays traces of events through the recorder, each from reset, and prints what it recorded.\n  --answers  first the answer to each event: its number, and its value in hex\n  --state    last all physical entries: index, ctrsource, ctrtarget and ctrdata\nA trace is a file of little-endian 64-bit words, four to an event.\n",
+        b"usage: replay [--answers] [--state] [--zc] TRACE...\nReplays traces of events through the recorder, each from reset, and prints what it recorded.\n  --answers  first the answer to each event: its number, and its value in hex\n  --state    last all physical entries: index, ctrsource, ctrtarget and ctrdata\n  --zc       from a reset with table jumps and pop-returns (Zcmt and Zcmp) switched on\nA trace is a file of little-endian 64-bit words, four to an event.\n",
     );
 }
 

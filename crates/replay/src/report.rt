@@ -17,7 +17,7 @@ use transfers::counts::decoded;
 // How often each number was answered, then how often each value; each with a place for all others.
 pub(crate) const COUNTS: usize = 13;
 
-const REGISTERS: usize = 10;
+const REGISTERS: usize = 11;
 
 // The words of count k.
 fn put_words(out: &mut [u8], at: usize, k: u64) -> usize {
@@ -70,7 +70,7 @@ fn put_mode(out: &mut [u8], at: usize, m: Mode) -> usize {
     end_line(out, next)
 }
 
-// The registers but the mode, in the order of their lines.
+// The registers but the mode, and the switch, in the order of their lines.
 fn register_words(r: Registers) -> [u64; REGISTERS] {
     let b = r.buffer;
     [
@@ -84,6 +84,7 @@ fn register_words(r: Registers) -> [u64; REGISTERS] {
         flag(r.enables.hstateen0),
         r.cycles.counter,
         flag(r.cycles.ccv),
+        flag(r.constants.zc),
     ]
 }
 
@@ -92,7 +93,7 @@ fn put_register(out: &mut [u8], at: usize, k: u64, x: u64) -> usize {
     let mut next = put_line(
         out,
         at,
-        b"mctrctl \nvsctrctl \nsctrdepth \nsctrstatus \nsiselect \nvsiselect \nmstateen0.CTR \nhstateen0.CTR \ncycles \nccv ",
+        b"mctrctl \nvsctrctl \nsctrdepth \nsctrstatus \nsiselect \nvsiselect \nmstateen0.CTR \nhstateen0.CTR \ncycles \nccv \nzc ",
         k,
     );
     next = text::put_short_hex(out, next, x);

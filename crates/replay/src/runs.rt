@@ -224,7 +224,7 @@ fn started(at: usize, answers: bool, registers: Registers) -> Run {
 
 // An open file from reset, and what it left behind.
 fn replay_file(out: &mut [u8], at: usize, name: &[u8], fd: i32, o: Options) -> usize {
-    let s = reset();
+    let s = reset(o.zc);
     let mut ctrsource = s.ctrsource;
     let mut ctrtarget = s.ctrtarget;
     let mut ctrdata = s.ctrdata;

@@ -94,10 +94,11 @@ fn run_slice(words: &[u64; WORDS], s: Sweep, k: usize) -> Sweep {
     }
 }
 
+// The switch is on, so that table jumps and pop-returns are transfers.
 pub(crate) fn run_slices(words: &[u64; WORDS]) -> Sweep {
     let mut s = Sweep {
         random: SEED,
-        state: reset(),
+        state: reset(true),
         tally: nothing(),
     };
     for k in 0..SLICES {

@@ -40,7 +40,7 @@ fn written(s: State, number: u64, operand: u64) -> State {
 
 // Depth 256, and M is on.
 fn start() -> State {
-    written(written(reset(), SCTRDEPTH, 4), MCTRCTL, 4)
+    written(written(reset(false), SCTRDEPTH, 4), MCTRCTL, 4)
 }
 
 fn call(i: u64) -> RetiredWord {

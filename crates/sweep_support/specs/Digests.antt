@@ -1,6 +1,7 @@
 -- Digests with answers, registers and entries taken in, field by field in their order.
 use Prim.Native.Nat.{ℕ, zero, suc}
 use Rattle.machine.specs.declared.Buffer.{Buffer}
+use Rattle.machine.specs.declared.Constants.{Constants}
 use Rattle.machine.specs.declared.ControlWords.{ControlWords}
 use Rattle.machine.specs.declared.Cycles.{Cycles}
 use Rattle.machine.specs.declared.Enables.{Enables}
@@ -34,13 +35,16 @@ withEnables h e = digested (digested h (flagOf (e .mstateen0))) (flagOf (e .hsta
 unfoldable pub withCycles : ℕ → Cycles → ℕ
 withCycles h c = digested (digested h (c .counter)) (flagOf (c .ccv))
 
+unfoldable pub withConstants : ℕ → Constants → ℕ
+withConstants h c = digested h (flagOf (c .zc))
+
 -- the mode, then each group
 unfoldable pub withRegisters : ℕ → Registers → ℕ
 withRegisters h r =
-    withCycles
+    withConstants (withCycles
     (withEnables (withSelects (withBuffer (withControls (digested h (modeCode (r .mode))) (r .controls)) (r .buffer)) (r .selects))
     (r .enables))
-    (r .cycles)
+    (r .cycles)) (r .constants)
 
 -- the first n entries
 unfoldable pub withEntries : ℕ → Entries → ℕ → ℕ

@@ -1,7 +1,8 @@
 // The digest h with an answer, an entry or registers taken in.
 ghost use mathlib.Core.Path.{_≡_};
-ghost use Rattle.sweep_support.specs.Digests.{withAnswer, withEntry, withControls, withBuffer, withSelects, withEnables, withCycles, withRegisters};
+ghost use Rattle.sweep_support.specs.Digests.{withAnswer, withEntry, withControls, withBuffer, withSelects, withEnables, withCycles, withConstants, withRegisters};
 use machine::Buffer;
+use machine::Constants;
 use machine::ControlWords;
 use machine::Cycles;
 use machine::Enables;
@@ -54,6 +55,12 @@ fn digest_cycles(h: u64, c: Cycles) -> u64
     digest(digest(h, c.counter), flag(c.ccv))
 }
 
+fn digest_constants(h: u64, c: Constants) -> u64
+    ensures { λ d. ⌜ d ≡ withConstants h c ⌝ }
+{
+    digest(h, flag(c.zc))
+}
+
 pub fn digest_registers(h: u64, r: Registers) -> u64
     ensures { λ d. ⌜ d ≡ withRegisters h r ⌝ }
 {
@@ -63,10 +70,12 @@ pub fn digest_registers(h: u64, r: Registers) -> u64
     let s = r.selects;
     let e = r.enables;
     let y = r.cycles;
+    let k = r.constants;
     let mut d = digest(h, mode_code(m));
     d = digest_controls(d, c);
     d = digest_buffer(d, b);
     d = digest_selects(d, s);
     d = digest_enables(d, e);
-    digest_cycles(d, y)
+    d = digest_cycles(d, y);
+    digest_constants(d, k)
 }

@@ -2,9 +2,11 @@
 // so no public function asks anything of its arguments.
 ghost use mathlib.Core.Path.{_≡_};
 ghost use Prim.Native.Nat.{_/_, _%_, _^_, _≤_, _<_};
-ghost use lib.ListN.{take};
+ghost use lib.ListN.{length, take};
 ghost use Rattle.text.specs.Page.{page, withByte, written};
 ghost use Rattle.text.specs.Digits.{glyph, digits, number, prefix};
+ghost use Rattle.text.specs.Words.{sameTo, isSame};
+ghost use mathlib.Core.Bool.{_&&_};
 
 // One byte.
 pub fn put_byte(out: &mut [u8], at: usize, b: u8) -> usize
@@ -98,4 +100,36 @@ fn ascii(d: u64) -> u8
     ensures { λ r. ⌜ r ≡ glyph d ⌝ }
 {
     if d < 10 { 48 + d as u8 } else { 87 + d as u8 }
+}
+
+fn both(a: bool, b: bool) -> bool
+    ensures { λ r. ⌜ r ≡ (a && b) ⌝ }
+{
+    a && b
+}
+
+// Whether the first n bytes of two texts are the same.
+fn is_same_to(a: &[u8], b: &[u8], n: usize) -> bool
+    requires { ⌜ n ≤ length (now a) ⌝ }
+    requires { ⌜ n ≤ length (now b) ⌝ }
+    ensures { λ r. ⌜ r ≡ sameTo (now (a .entry)) (now (b .entry)) n ⌝ }
+{
+    let mut same = true;
+    let mut i = 0;
+    while i < n {
+        same = both(same, a[i] == b[i]);
+        i += 1;
+    }
+    same
+}
+
+// Whether two texts are the same.
+pub fn is_same(a: &[u8], b: &[u8]) -> bool
+    ensures { λ r. ⌜ r ≡ isSame (now (a .entry)) (now (b .entry)) ⌝ }
+{
+    if a.len() == b.len() {
+        is_same_to(a, b, a.len())
+    } else {
+        false
+    }
 }

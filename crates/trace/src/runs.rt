@@ -28,6 +28,7 @@ use crate::rows::retired_in;
 use crate::rows::return_in;
 use crate::rows::trap_in;
 use machine::Buffer;
+use machine::Constants;
 use machine::ControlWords;
 use machine::Cycles;
 use machine::Enables;
@@ -324,6 +325,7 @@ fn apart(r: Registers) -> Registers
         counter: r.cycles.counter,
         ccv: r.cycles.ccv,
     };
+    let constants = Constants { zc: r.constants.zc };
     Registers {
         mode,
         controls,
@@ -331,6 +333,7 @@ fn apart(r: Registers) -> Registers
         selects,
         enables,
         cycles,
+        constants,
     }
 }
 

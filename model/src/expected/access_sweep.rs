@@ -89,7 +89,7 @@ impl Random {
                 _ => cycles % (1 << 27),
             },
             ccv: cycles >> 63 == 1,
-            ..Registers::RESET
+            ..Registers::reset(false)
         }
     }
 }
@@ -189,7 +189,7 @@ fn places(depth_code: u64, wrptr: u64) -> impl Iterator<Item = u64> {
     let registers = Registers {
         depth_code,
         wrptr,
-        ..Registers::RESET
+        ..Registers::reset(false)
     };
     (0..registers.depth()).map(move |i| registers.physical_entry(i))
 }

@@ -10,6 +10,7 @@ mod mispredictions;
 mod pairs;
 mod random_run;
 mod random_trace;
+mod switch;
 
 use self::bench_lines::bench_lines;
 use self::pairs::pairs;
@@ -34,4 +35,25 @@ pub(super) fn with_answer(h: u64, answer: Answer) -> u64 {
 pub(super) fn with_state(h: u64, machine: &Machine) -> u64 {
     let h = extended(h, machine.registers.fields());
     extended(h, machine.entries.iter().flat_map(Entry::words))
+}
+
+/// A name with counts.
+type Counted<'a> = (&'static str, &'a [u32]);
+
+/// A line for each name with its counts behind it, under a title.
+fn rows_under(title: &str, rows: &[Counted]) -> String {
+    let mut text = title.to_string();
+    for (name, counts) in rows {
+        text += name;
+        for count in *counts {
+            text += &format!(" {count}");
+        }
+        text += "\n";
+    }
+    text
+}
+
+#[cfg(test)]
+fn any_is_0(rows: &[Counted]) -> bool {
+    rows.iter().any(|(_, counts)| counts.contains(&0))
 }

@@ -53,10 +53,10 @@ fn tally() -> Tally {
     tally
 }
 
-/// Runs all slices, whole and cut. Each starts where the last one ended that was not run from a bad
+/// Runs all slices, whole and cut, with the switch on. Each starts where the last one ended that was not run from a bad
 /// state; what is given is the machine after them.
 fn add_slices(tally: &mut Tally, random: &mut Random, input: &[Row]) -> Machine {
-    let mut machine = Machine::reset();
+    let mut machine = Machine::reset(true);
     for k in 0..SLICES {
         let trial = slice(input, random, &machine, k);
         let whole = trial.run_whole(tally);
@@ -291,7 +291,7 @@ mod tests {
     /// Refused for loose words, with and without room; and for too few answer words, down to none.
     #[test]
     fn slices_are_refused_in_each_way() {
-        let (input, machine) = (rows(), Machine::reset());
+        let (input, machine) = (rows(), Machine::reset(false));
         let mut random = Random::from_seed();
         let slices: Vec<Trial> = (0..SLICES)
             .map(|k| slice(&input, &mut random, &machine, k))
@@ -326,7 +326,7 @@ mod tests {
     #[test]
     fn bad_states_are_bad() {
         for way in 0..4 {
-            let mut registers = Registers::RESET;
+            let mut registers = Registers::reset(false);
             make_bad(&mut registers, way);
             assert!(registers.is_bad());
         }

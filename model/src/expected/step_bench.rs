@@ -26,7 +26,7 @@ pub fn step_bench() -> String {
 
 /// The digest of the answers to all calls and of the state after them.
 fn round() -> u64 {
-    let mut machine = Machine::reset();
+    let mut machine = Machine::reset(false);
     for (csr, operand) in SETUP {
         machine.step(Event::Access(Access {
             operation: Operation::Write,

@@ -5,10 +5,11 @@
 use std::{io, iter};
 
 use crate::access::{Access, Operation};
+use crate::printed::Printed;
 use crate::recorder::{Event, Retired, Trap, TrapReturn};
 use crate::registers::csr::{MCTRCTL, SCTRCTL, SCTRDEPTH, SISELECT, VSCTRCTL, VSISELECT};
 use crate::registers::Mode;
-use crate::replay::{bytes_of, encode, replay, row_of, Printed, Row, ROW_BYTES};
+use crate::replay::{bytes_of, encode, replay, row_of, Row, ROW_BYTES};
 
 const USER: &[u8] = include_bytes!("../../../examples/traces/user.rows");
 const GUEST: &[u8] = include_bytes!("../../../examples/traces/guest.rows");

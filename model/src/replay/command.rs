@@ -1,10 +1,11 @@
 //! The arguments of `replay`.
 
 pub(super) const USAGE: &str = "\
-usage: replay [--answers] [--state] TRACE...
+usage: replay [--answers] [--state] [--zc] TRACE...
 Replays traces of events through the recorder, each from reset, and prints what it recorded.
   --answers  first the answer to each event: its number, and its value in hex
   --state    last all physical entries: index, ctrsource, ctrtarget and ctrdata
+  --zc       from a reset with table jumps and pop-returns (Zcmt and Zcmp) switched on
 A trace is a file of little-endian 64-bit words, four to an event.
 ";
 
@@ -12,6 +13,7 @@ A trace is a file of little-endian 64-bit words, four to an event.
 pub(super) struct Options {
     pub(super) answers: bool,
     pub(super) state: bool,
+    pub(super) zc: bool,
 }
 
 #[derive(Debug, PartialEq, Eq)]
@@ -30,6 +32,7 @@ pub(super) fn command(arguments: &[String]) -> Result<Command<'_>, String> {
         match flag.as_str() {
             "--answers" => options.answers = true,
             "--state" => options.state = true,
+            "--zc" => options.zc = true,
             "--help" => return Ok(Command::ShowUsage),
             _ => return Err(format!("unknown flag {flag}")),
         }
@@ -45,9 +48,22 @@ pub(super) fn command(arguments: &[String]) -> Result<Command<'_>, String> {
 mod tests {
     use super::*;
 
+    const NONE: Options = Options {
+        answers: false,
+        state: false,
+        zc: false,
+    };
+
     const BOTH: Options = Options {
         answers: true,
         state: true,
+        zc: false,
+    };
+
+    const ALL: Options = Options {
+        answers: true,
+        state: true,
+        zc: true,
     };
 
     fn words(text: &str) -> Vec<String> {
@@ -68,7 +84,7 @@ mod tests {
 
     #[test]
     fn usage_is_shown_without_arguments_and_on_request() {
-        for arguments in ["", "--help"] {
+        for arguments in ["", "--help", "--zc --help", "--help --zc a"] {
             assert_eq!(command(&words(arguments)), Ok(Command::ShowUsage));
         }
     }
@@ -77,27 +93,30 @@ mod tests {
     fn flags_stand_in_any_order_and_any_number() {
         let answers = Options {
             answers: true,
-            state: false,
+            ..NONE
         };
         let state = Options {
-            answers: false,
             state: true,
+            ..NONE
         };
-        assert_replays("a b", Options::default(), "a b");
+        let zc = Options { zc: true, ..NONE };
+        assert_replays("a b", NONE, "a b");
         assert_replays("--answers a", answers, "a");
         assert_replays("--state --state a", state, "a");
+        assert_replays("--zc a", zc, "a");
+        assert_replays("--zc --zc a", zc, "a");
         assert_replays("--answers --state a", BOTH, "a");
         assert_replays("--state --answers --state a", BOTH, "a");
+        assert_replays("--zc --answers --state a", ALL, "a");
+        assert_replays("--answers --zc --state --zc a", ALL, "a");
+        assert_replays("--state --answers --zc a", ALL, "a");
     }
 
     #[test]
     fn after_a_trace_all_arguments_are_traces() {
-        assert_replays(
-            "a --state --x --help",
-            Options::default(),
-            "a --state --x --help",
-        );
+        assert_replays("a --state --x --help", NONE, "a --state --x --help");
         assert_replays("--state --answers a - b", BOTH, "a - b");
+        assert_replays("--state --answers a --zc", BOTH, "a --zc");
     }
 
     #[test]
@@ -107,11 +126,14 @@ mod tests {
         assert_refuses("- a", "unknown flag -");
         assert_refuses("--answer a", "unknown flag --answer");
         assert_refuses("--statement", "unknown flag --statement");
+        assert_refuses("--zc --zcx a", "unknown flag --zcx");
+        assert_refuses("-zc --zc a", "unknown flag -zc");
     }
 
     #[test]
     fn flags_want_a_trace() {
         assert_refuses("--answers", "no trace given");
         assert_refuses("--answers --state", "no trace given");
+        assert_refuses("--zc", "no trace given");
     }
 }

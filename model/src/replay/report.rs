@@ -62,9 +62,10 @@ pub struct Run {
 }
 
 impl Run {
-    pub fn from_reset() -> Run {
+    /// No event yet, after a reset with `zc` as given.
+    pub fn from_reset(zc: bool) -> Run {
         Run {
-            machine: Machine::reset(),
+            machine: Machine::reset(zc),
             events: 0,
             numbers: [0; NUMBERS.len()],
             values: [0; VALUES.len()],
@@ -119,6 +120,7 @@ fn registers(registers: &Registers) -> String {
         ("hstateen0.CTR", registers.hstateen0_ctr.into()),
         ("cycles", registers.cycles),
         ("ccv", registers.ccv.into()),
+        ("zc", registers.zc.into()),
     ];
     let lines = readings.map(|(name, reading)| format!("{name} {reading:#x}\n"));
     format!("mode {:?}\n", registers.mode) + &lines.concat()
@@ -199,7 +201,10 @@ mod tests {
     }
 
     fn report_of(events: &[Event]) -> String {
-        let mut run = Run::from_reset();
+        report_from(Run::from_reset(false), events)
+    }
+
+    fn report_from(mut run: Run, events: &[Event]) -> String {
         for event in events {
             run.step(*event);
         }
@@ -218,11 +223,38 @@ mstateen0.CTR 0x0
 hstateen0.CTR 0x0
 cycles 0x0
 ccv 0x0
+zc 0x0
 ";
 
     #[test]
     fn without_events_there_is_the_reset() {
         assert_eq!(report_of(&[]), format!("events 0\n{RESET}"));
+    }
+
+    /// CM.JALT 32 with the switch on and off.
+    #[test]
+    fn words_go_by_the_switch_of_the_reset() {
+        let table_jump = Event::Retired(Retired {
+            word: 0xA082,
+            pc: 0x1000,
+            target: 0x2000,
+            taken: false,
+            mispredicted: false,
+            cycles: 3,
+        });
+        let events = [write(0x34E, 4), table_jump];
+        let report = report_from(Run::from_reset(true), &events);
+        let expected = "\
+hstateen0.CTR 0x0
+cycles 0x0
+ccv 0x1
+zc 0x1
+0 0x1000 -> 0x2000 direct call
+";
+        assert!(report.ends_with(expected), "{report}");
+        let report = report_from(Run::from_reset(false), &events);
+        let expected = "\nhstateen0.CTR 0x0\ncycles 0x3\nccv 0x0\nzc 0x0\n";
+        assert!(report.ends_with(expected), "{report}");
     }
 
     #[test]
@@ -270,6 +302,7 @@ ccv 0x0
             hstateen0_ctr: true,
             cycles: 0x7FF_FFFF,
             ccv: true,
+            zc: true,
         });
         let expected = "\
 mode VS
@@ -283,6 +316,7 @@ mstateen0.CTR 0x1
 hstateen0.CTR 0x1
 cycles 0x7ffffff
 ccv 0x1
+zc 0x1
 ";
         assert_eq!(text, expected);
     }
@@ -290,7 +324,7 @@ ccv 0x1
     /// WRPTR is 2 at depth 16, so logical entries 0 and 15 are physical entries 1 and 2. Entry 16
     /// is not in use, and entry 3 not valid.
     fn machine_with_entries() -> Machine {
-        let mut machine = Machine::reset();
+        let mut machine = Machine::reset(false);
         machine.registers.wrptr = 2;
         for (index, ctrsource, ctrtarget, ctrdata) in [
             (1, 0x1001, 0x2003, 0xFFF8),
@@ -344,6 +378,7 @@ ccv 0x1
 hstateen0.CTR 0x0
 cycles 0x56
 ccv 0x1
+zc 0x0
 0 0x1000 -> 0x2000 direct call cycles 4660
 1 0x1000 -> 0x2000 direct call
 ";
@@ -463,7 +498,7 @@ ccv 0x1
 
     #[test]
     fn all_entries_come_last_if_wanted() {
-        let run = Run::from_reset();
+        let run = Run::from_reset(false);
         let expected = run.report(false) + &physical_entries(&run.machine.entries);
         assert_eq!(run.report(true), expected);
     }

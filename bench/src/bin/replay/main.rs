@@ -48,7 +48,7 @@ fn run() -> io::Result<()> {
     for (name, file, bytes) in traces {
         let trace = folder.join(file);
         fs::write(&trace, bytes)?;
-        for flags in [&[][..], &["--answers"]] {
+        for flags in [&[][..], &["--answers"], &["--zc"]] {
             let case = [&["replay"], flags].concat().join(" ");
             let line = compare(&sides, flags, &trace)?;
             println!("{case}, {name}: {line}");

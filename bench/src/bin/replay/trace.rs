@@ -25,7 +25,7 @@ struct Sample {
 impl Sample {
     fn read(folder: &Path, name: &str, setups: &[&str]) -> io::Result<Sample> {
         let read = |name| read_events(&folder.join(name));
-        let mut machine = Machine::reset();
+        let mut machine = Machine::reset(false);
         let with_mode = |event| {
             let mode = machine.registers.mode;
             machine.step(event);

@@ -1,4 +1,4 @@
-//! `replay_rust [--answers] TRACE` prints what `replay` does of a well-formed trace. It is written
+//! `replay_rust [--answers | --zc] TRACE` prints what `replay` does of a well-formed trace. It is written
 //! for speed, and uses nothing of the model: it is what the program's speed is held against.
 
 mod access;
@@ -24,9 +24,12 @@ const BLOCK_BYTES: usize = BLOCK_ROWS * ROW_BYTES;
 fn main() -> ExitCode {
     let arguments: Vec<String> = env::args().skip(1).collect();
     let result = match &arguments[..] {
-        [path] => replay::<false>(path),
-        [flag, path] if flag == "--answers" => replay::<true>(path),
-        _ => Err(io::Error::other("give one trace, after --answers or not")),
+        [path] => replay::<false>(path, false),
+        [flag, path] if flag == "--answers" => replay::<true>(path, false),
+        [flag, path] if flag == "--zc" => replay::<false>(path, true),
+        _ => Err(io::Error::other(
+            "give one trace, after --answers, --zc or nothing",
+        )),
     };
     match result {
         Ok(()) => ExitCode::SUCCESS,
@@ -37,10 +40,10 @@ fn main() -> ExitCode {
     }
 }
 
-fn replay<const ANSWERS: bool>(path: &str) -> io::Result<()> {
+fn replay<const ANSWERS: bool>(path: &str, zc: bool) -> io::Result<()> {
     let mut file = File::open(path)?;
     let mut stdout = io::stdout().lock();
-    let mut run = Run::from_reset();
+    let mut run = Run::from_reset(zc);
     let (mut block, mut answers) = (vec![0; BLOCK_BYTES], Answers::none());
     loop {
         let filled = fill(&mut file, &mut block)?;

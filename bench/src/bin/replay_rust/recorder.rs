@@ -115,6 +115,7 @@ pub const NO_ENTRY: Entry = Entry {
 };
 
 pub struct Recorder {
+    pub zc: bool,
     pub mode: Mode,
     pub frozen: bool,
     pub mstateen0_ctr: bool,
@@ -139,8 +140,9 @@ pub struct Recorder {
 }
 
 impl Recorder {
-    pub fn reset() -> Recorder {
+    pub fn reset(zc: bool) -> Recorder {
         Recorder {
+            zc,
             mode: Mode::M,
             frozen: false,
             mstateen0_ctr: false,
@@ -188,7 +190,7 @@ impl Recorder {
         if self.wanted == 0 {
             return Value::Nothing;
         }
-        let number = transfer_type(word, taken);
+        let number = transfer_type(word, taken, self.zc);
         let is_wanted = self.wanted >> number & 1 == 1;
         self.count(self.is_emulating, cycles);
         let ctrtarget = target & !MISP | misp;

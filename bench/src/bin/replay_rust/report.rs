@@ -43,6 +43,7 @@ fn registers(recorder: &Recorder) -> String {
         ("hstateen0.CTR", recorder.hstateen0_ctr.into()),
         ("cycles", recorder.counter),
         ("ccv", recorder.ccv.into()),
+        ("zc", recorder.zc.into()),
     ];
     let lines = readings.map(|(name, reading)| format!("{name} {reading:#x}\n"));
     format!("mode {:?}\n", recorder.mode) + &lines.concat()

@@ -34,9 +34,9 @@ pub struct Run {
 }
 
 impl Run {
-    pub fn from_reset() -> Run {
+    pub fn from_reset(zc: bool) -> Run {
         Run {
-            recorder: Recorder::reset(),
+            recorder: Recorder::reset(zc),
             values: [0; 5],
             refusals: [0; 5],
             others: 0,

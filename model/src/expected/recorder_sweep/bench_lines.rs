@@ -87,7 +87,7 @@ impl Bench {
 
 /// Runs events from reset.
 fn answered(name: &str, events: &[Event]) -> String {
-    let mut machine = Machine::reset();
+    let mut machine = Machine::reset(false);
     let answers = events.iter().map(|event| machine.step(*event));
     let answer = answers.last().expect("an event");
     format!(

@@ -9,8 +9,9 @@ use crate::registers::csr::{SCTRDEPTH, SCTRSTATUS};
 use crate::registers::{Mode, Registers, DEPTHS, MCTRCTL_MASK, SCTRCTL_MASK};
 
 /// Each type by each kind of word that has it, with x1, x5 and a register that is not link as rd
-/// and as base; then words that are none.
-const WORDS: [u32; 32] = [
+/// and as base; then words that are none; then table jumps and pop-returns at their bounds, one with a
+/// reserved rlist, and CM.PUSH.
+const WORDS: [u32; 40] = [
     0x0000_8067, // jalr x0, x1
     0x0002_8067, // jalr x0, x5
     0x0003_0067, // jalr x0, x6
@@ -43,6 +44,14 @@ const WORDS: [u32; 32] = [
     0x0000_90e7, // jalr x1, x1 with funct3 1
     0x3020_0073, // mret
     0x1040_0073, // sctrclr
+    0x0000_a002, // cm.jt 0
+    0x0000_a07e, // cm.jt 31
+    0x0000_a082, // cm.jalt 32
+    0x0000_a3fe, // cm.jalt 255
+    0x0000_be42, // cm.popret, rlist 4
+    0x0000_bcfe, // cm.popretz, rlist 15
+    0x0000_be3e, // cm.popret, rlist 3
+    0x0000_b842, // cm.push
 ];
 
 /// All listed CSR numbers; some that are not, beside them, at the ends of the ranges and far away;
@@ -186,6 +195,7 @@ impl Random {
             hstateen0_ctr,
             cycles: counter(g),
             ccv: g / 4 % 2 == 1,
+            zc: false,
         };
         match choices.below(16) {
             0 => registers.depth_code = from_up(5, d),
@@ -195,6 +205,7 @@ impl Random {
             4 => registers.cycles = from_up(COUNTERS, d),
             _ => {}
         }
+        registers.zc = choices.below(2) == 1;
         registers
     }
 
@@ -238,7 +249,7 @@ impl Random {
     pub(super) fn retired_word(&mut self) -> Event {
         let [w, pc, target, n] = self.draw_all();
         let (pc, target) = (address(pc), address(target));
-        retired(w, pc, target, w / 256, cycles(n))
+        retired(w, pc, target, w / 320, cycles(n))
     }
 }
 

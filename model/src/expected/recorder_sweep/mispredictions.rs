@@ -1,5 +1,8 @@
 //! What MISP met: the transfers that were recorded, popped or swapped, and the accesses to ctrtarget.
 
+#[cfg(test)]
+use super::any_is_0;
+use super::rows_under;
 use crate::recorder::{Event, Machine};
 use crate::registers::csr::{SIREG2, VSIREG2};
 use crate::registers::Entry;
@@ -68,20 +71,15 @@ impl Mispredictions {
     }
 
     pub(super) fn lines(&self) -> String {
-        let mut text = "  MISP, by the flag, bit 0 of the target and MISP before\n".to_string();
-        for (name, counts) in self.rows() {
-            text += name;
-            for count in counts {
-                text += &format!(" {count}");
-            }
-            text += "\n";
-        }
-        text
+        rows_under(
+            "  MISP, by the flag, bit 0 of the target and MISP before\n",
+            &self.rows(),
+        )
     }
 
     #[cfg(test)]
     pub(super) fn has_none(&self) -> bool {
-        self.rows().iter().any(|(_, counts)| counts.contains(&0))
+        any_is_0(&self.rows())
     }
 }
 

@@ -70,6 +70,7 @@ impl Run {
 #[derive(Default)]
 struct Tally {
     bad_starts: u32,
+    switched_on: u32,
     unequal_lengths: u32,
     empty: u32,
     struck_to_nothing: u32,
@@ -113,6 +114,7 @@ impl Tally {
     fn lines(&self) -> String {
         let counts = [
             ("bad starts", self.bad_starts),
+            ("switched on", self.switched_on),
             ("unequal lengths", self.unequal_lengths),
             ("empty lists", self.empty),
             ("struck to nothing", self.struck_to_nothing),
@@ -145,6 +147,7 @@ pub(super) fn pairs() -> String {
 fn add_pair(tally: &mut Tally, random: &mut Random) {
     let start = random.machine();
     tally.bad_starts += u32::from(start.registers.is_bad());
+    tally.switched_on += u32::from(start.registers.zc);
     let (mut a, mut b) = (Run::new(start.clone()), Run::new(start));
     for _ in 0..turns(random.draw()) {
         retire_words(&mut a, &mut b, random);

@@ -4,6 +4,7 @@ use super::counts::Counts;
 use super::depths::Depths;
 use super::edges::{Edges, RASEMU, TRETINH};
 use super::mispredictions::Mispredictions;
+use super::switch::Switched;
 use super::{with_answer, with_state};
 use crate::access::Answer;
 use crate::expected::random::Random;
@@ -19,7 +20,7 @@ const EVENTS: u32 = 400;
 const EVENTS_IF_BAD: u32 = 40;
 
 /// How many events met FROZEN, how often each number was answered and each value, the edges, the depths,
-/// the counts and the flags that were met, and digests of answers and of the states after them.
+/// the counts, the flags and the switched words that were met, and digests of answers and of the states after them.
 #[derive(Default)]
 struct Tally {
     bad_starts: u32,
@@ -31,6 +32,7 @@ struct Tally {
     depths: Depths,
     counts: Counts,
     mispredictions: Mispredictions,
+    switched: Switched,
     answers: u64,
     states: u64,
 }
@@ -60,6 +62,7 @@ impl Tally {
         text += &self.depths.lines();
         text += &self.counts.lines();
         text += &self.mispredictions.lines();
+        text += &self.switched.lines();
         text += &format!("  answers 0x{:016x}\n", self.answers);
         text + &format!("  states 0x{:016x}\n", self.states)
     }
@@ -98,6 +101,7 @@ fn add_list(tally: &mut Tally, random: &mut Random, list: u64) {
             if answer.number == 0 {
                 tally.counts.add(event, registers, &machine, value);
                 tally.mispredictions.add(event, &before, answer.value);
+                tally.switched.add(event, &before, answer.value);
             }
         }
         tally.add(event, answer, &machine);
@@ -144,5 +148,6 @@ mod tests {
         assert!(depths.all(|count| *count > 0), "{}", tally.lines());
         assert!(!tally.counts.has_none(), "{}", tally.lines());
         assert!(!tally.mispredictions.has_none(), "{}", tally.lines());
+        assert!(!tally.switched.has_none(), "{}", tally.lines());
     }
 }

@@ -25,7 +25,7 @@ pub fn random_events(seed: u64) -> impl Iterator<Item = Event> {
 fn stretch(random: &mut Random) -> Vec<Event> {
     let mut events = switching_on(random).to_vec();
     // What is drawn goes by the mode alone, which is M here as after reset.
-    let mut machine = Machine::reset();
+    let mut machine = Machine::reset(false);
     for _ in 0..STRETCH {
         let event = random.event(machine.registers.mode);
         machine.step(event);
@@ -78,7 +78,7 @@ mod tests {
 
     #[test]
     fn every_mode_number_and_value_occurs() {
-        let mut machine = Machine::reset();
+        let mut machine = Machine::reset(false);
         let (mut modes, mut numbers, mut values) = (HashSet::new(), HashSet::new(), HashSet::new());
         for event in random_events(1).take(2000) {
             let answer = machine.step(event);

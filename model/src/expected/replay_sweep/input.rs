@@ -95,7 +95,7 @@ mod tests {
 
     /// The well-formed rows as events from reset, with answers and the modes after them.
     fn answered() -> Vec<(Event, Answer, Mode)> {
-        let mut machine = Machine::reset();
+        let mut machine = Machine::reset(true);
         let rows = rows();
         let events = rows[..GOOD].iter().map(|row| decode(*row));
         events

@@ -1,4 +1,5 @@
 -- `access::writes::control_written` meets its contract. Assumes nothing.
+use mathlib.Core.Path.{refl}
 use Rattle.access.proofs.writes.control_written.Statement.{statement}
 use Rattle.access.proofs.writes.control_written.Tie as tie
 
@@ -8,4 +9,4 @@ control-written-spec =
     (tie.spec
     (λ c κs. tt)
     (λ c κs. tt)
-    (λ c. cc))
+    (λ c. rw (c .with-no-cycles .ensures, c .before .with-control .ensures) refl))

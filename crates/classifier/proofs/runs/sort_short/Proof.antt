@@ -11,19 +11,19 @@ use Rattle.classifier.proofs.runs.sort_short.Statement.{statement}
 use Rattle.classifier.proofs.runs.sort_short.Tie as tie
 
 abbrev Inv-loop : tie.InvT-loop
-Inv-loop words types₀ n i₀ types i =
-    (i ≤ n) × (length types ≡ length types₀) × (types ≡ classified (take i words) types₀)
+Inv-loop words zc types₀ n i₀ types i =
+    (i ≤ n) × (length types ≡ length types₀) × (types ≡ classified zc (take i words) types₀)
 
 abbrev μ-loop : tie.MeasureT-loop
-μ-loop words types₀ n i₀ types i = n - i
+μ-loop words zc types₀ n i₀ types i = n - i
 
 loop-again : tie.Need-loop-again Inv-loop μ-loop
 loop-again c =
     let l = c .before .before .before .loop in
-    (search needs, search needs, again _ _ _ _ _ (l .inv .2) (c .ctr-classify .ensures) (omega arith) (omega arith))
+    (search needs, search needs, again _ _ _ _ _ _ (l .inv .2) (c .ctr-classify .ensures) (omega arith) (omega arith))
 
 returns : tie.Need-returns Inv-loop μ-loop
-returns c = let l = c .before .loop in (search needs, ended _ _ _ (l .i) (l .inv .2) (omega arith))
+returns c = let l = c .before .loop in (search needs, ended _ _ _ _ (l .i) (l .inv .2) (omega arith))
 
 pub sort-short-spec : {M : Type 1} → statement M
 unfolding classified

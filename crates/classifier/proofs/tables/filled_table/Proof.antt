@@ -11,10 +11,10 @@ use Rattle.classifier.proofs.tables.filled_table.Statement.{statement}
 use Rattle.classifier.proofs.tables.filled_table.Tie as tie
 
 abbrev Inv-loop : tie.InvT-loop
-Inv-loop table₀ i₀ table i = (i ≤ 5376) × (length table ≡ 5376) × Tabled i table
+Inv-loop zc table₀ i₀ table i = (i ≤ 5376) × (length table ≡ 5376) × Tabled zc i table
 
 abbrev μ-loop : tie.MeasureT-loop
-μ-loop table₀ i₀ table i = 5376 - i
+μ-loop zc table₀ i₀ table i = 5376 - i
 
 loop-holds : tie.Need-loop-holds Inv-loop μ-loop
 loop-holds c = (search needs, search needs, λ k h. absurd (omega arith))
@@ -22,7 +22,7 @@ loop-holds c = (search needs, search needs, λ k h. absurd (omega arith))
 loop-again : tie.Need-loop-again Inv-loop μ-loop
 loop-again c =
     let l = c .before .before .loop in
-    (search needs, search needs, rw (add-one (l .i)) (tabled-more (l .i) (l .table) (c .cell .result) (l .inv .2) (c .cell .ensures) (search needs)))
+    (search needs, search needs, rw (add-one (l .i)) (tabled-more _ (l .i) (l .table) (c .cell .result) (l .inv .2) (c .cell .ensures) (search needs)))
 
 returns : tie.Need-returns Inv-loop μ-loop
 returns c k h = c .before .loop .inv .2 k (search needs)

@@ -14,4 +14,5 @@ group-spec =
     (λ c. search picks depth 9)
     (λ c. search picks depth 9)
     (λ c. search picks depth 9)
+    (λ c. search picks depth 9)
     (λ c. search picks depth 9))

@@ -9,17 +9,17 @@ look-requires-3 : tie.Need-look-requires-3
 look-requires-3 c κs =
     let second = c .before .before in
     let first = second .before in
-    let r = row-below _ _ _ _ (first .before .before .field32 .ensures) (first .before .look .ensures) (first .widened .ensures) in
-    let d = column-below _ _ _ _ (second .field322 .ensures) (c .before .look2 .ensures) (c .widened2 .ensures) in
+    let r = row-below _ _ _ _ _ (first .before .before .field32 .ensures) (first .before .look .ensures) (first .widened .ensures) in
+    let d = column-below _ _ _ _ _ (second .field322 .ensures) (c .before .look2 .ensures) (c .widened2 .ensures) in
     (first .before .before .before .pre, omega (arith, r, d))
 
 returns : tie.Need-returns
 returns c =
     let second = c .before .before .before in
     let first = second .before in
-    looked-type _ _ _ _
-    (looked-row _ _ _ _ (first .before .before .field32 .ensures) (first .before .look .ensures) (first .widened .ensures))
-    (looked-column _ _ _ _ (second .field322 .ensures) (c .before .before .look2 .ensures) (c .before .widened2 .ensures))
+    looked-type _ _ _ _ _
+    (looked-row _ _ _ _ _ (first .before .before .field32 .ensures) (first .before .look .ensures) (first .widened .ensures))
+    (looked-column _ _ _ _ _ (second .field322 .ensures) (c .before .before .look2 .ensures) (c .before .widened2 .ensures))
     (c .look3 .ensures)
 
 pub look-up-spec : {M : Type 1} → statement M

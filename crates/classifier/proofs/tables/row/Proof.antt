@@ -1,18 +1,14 @@
 -- `classifier::tables::row` meets its contract. Assumes nothing.
-use Prim.Native.Nat.{_%_}
 use native.Mathlib.Omega.{arith}
 use borrow.Author.Needs.{needs}
-use Rattle.classifier.specs.Tables.{rowOf, destinationOf}
-use Rattle.classifier.proofs.Specimens.{group-bound}
+use Rattle.classifier.specs.Tables.{rowOf}
+use Rattle.classifier.proofs.Specimens.{rank-bound}
 use Rattle.classifier.proofs.tables.row.Statement.{statement}
 use Rattle.classifier.proofs.tables.row.Tie as tie
 
 mul-result : tie.Need-mul-result
-mul-result c = let b = group-bound (c .before .args .low % 128) (omega arith) in record { fits = omega (arith, b, c .group .ensures) }
-
-add-result : tie.Need-add-result
-add-result c = let b = group-bound (c .before .before .args .low % 128) (omega arith) in record { fits = omega (arith, b, c .before .group .ensures) }
+mul-result c = let b = rank-bound (c .before .args .low) (search needs) in record { fits = omega (arith, b, c .rank .ensures) }
 
 pub row-spec : {M : Type 1} → statement M
-unfolding rowOf destinationOf
-row-spec = tie.close (tie.spec (λ c κs. tt) mul-result (λ c. search needs) (λ c κs. tt) (λ c. search needs) add-result (λ c. search needs))
+unfolding rowOf
+row-spec = tie.close (tie.spec (λ c κs. search needs) mul-result (λ c. search needs))

@@ -7,10 +7,10 @@ use Rattle.replay.proofs.report.put_registers.Statement.{statement}
 use Rattle.replay.proofs.report.put_registers.Tie as tie
 
 abbrev Inv-loop : tie.InvT-loop
-Inv-loop out₀ at words next₀ k₀ out next k = (k ≤ 10) × (length out ≡ length out₀)
+Inv-loop out₀ at words next₀ k₀ out next k = (k ≤ 11) × (length out ≡ length out₀)
 
 abbrev μ-loop : tie.MeasureT-loop
-μ-loop out₀ at words next₀ k₀ out next k = 10 - k
+μ-loop out₀ at words next₀ k₀ out next k = 11 - k
 
 pub put-registers-spec : {M : Type 1} → statement M
 put-registers-spec =

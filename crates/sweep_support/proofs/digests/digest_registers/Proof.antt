@@ -15,4 +15,5 @@ digest-registers-spec =
     (λ c κs. tt)
     (λ c κs. tt)
     (λ c κs. tt)
+    (λ c κs. tt)
     (λ c. cc))

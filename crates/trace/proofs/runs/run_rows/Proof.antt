@@ -55,7 +55,9 @@ add-i c =
     search (needs, at)
 
 loop-less : tie.Need-loop-less Inv-loop μ-loop
-loop-less c = search needs
+loop-less c =
+    let at = c .before .before .before .before .before .before .before .before .before .before .before .before in
+    search (needs, at)
 
 loop-again : tie.Need-loop-again Inv-loop μ-loop
 loop-again c =
