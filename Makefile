@@ -12,17 +12,18 @@ quietly = mkdir -p target && { $(1) >target/make.log 2>&1 || { cat target/make.l
 help: ## list the targets
 	@sed -n 's/^\([a-z-]*\):.*## /\1\t/p' Makefile | expand -t 12
 
-demo: program ## replay a sample trace and print its branch history (proves first: about five minutes)
+demo: program ## replay a sample trace, print its branch history and check it (proves first: some five minutes)
+	@$(call quietly,rt check check_dump)
 	@mkdir -p target/demo
-	@sh examples/demo.sh target/bin/replay target/demo
+	@sh examples/demo.sh target/bin/replay target/bin/check_dump target/demo
 
 test: ## prove everything and run every test: the gate
 	@scripts/demands-imports
 	@cd model && $(CARGO) test --release --offline
 	@rt ci
 
-check-cli: program ## hold arguments, output and complaints of replay and classify to the model's
-	@$(call quietly,rt check classify)
+check-cli: program ## hold arguments, output and complaints of replay, classify and check_dump to the model's
+	@$(call quietly,rt check classify check_dump)
 	@cd model && $(CARGO) test --release --offline --quiet --test check_cli -- --ignored
 
 examples: archive ## build and run the C and the Rust program of examples/

@@ -2,7 +2,7 @@
 
 pub(crate) const NONE: u8 = 0;
 pub(crate) const NOT_TAKEN_BRANCH: u8 = 4;
-const TAKEN_BRANCH: u8 = 5;
+pub(crate) const TAKEN_BRANCH: u8 = 5;
 pub(crate) const INDIRECT_CALL: u8 = 8;
 pub(crate) const DIRECT_CALL: u8 = 9;
 const INDIRECT_JUMP: u8 = 10;
@@ -13,7 +13,7 @@ const OTHER_INDIRECT_JUMP: u8 = 14;
 const OTHER_DIRECT_JUMP: u8 = 15;
 
 // The fields of 32-bit words.
-const OPCODE: u32 = 0x7f;
+pub(crate) const OPCODE: u32 = 0x7f;
 const RD: u32 = 0x1f << 7;
 const FUNCT3: u32 = 0x7 << 12;
 const RS1: u32 = 0x1f << 15;
@@ -30,9 +30,9 @@ const fn rs1(register: u32) -> u32 {
     register << 15
 }
 
-const JAL: u32 = 0x6f;
+pub(crate) const JAL: u32 = 0x6f;
 const JALR: u32 = 0x67 | funct3(0);
-const BRANCH: u32 = 0x63;
+pub(crate) const BRANCH: u32 = 0x63;
 
 /// The bits that tell JALR from all other 32-bit words.
 const IS_JALR: u32 = OPCODE | FUNCT3;
@@ -50,15 +50,15 @@ const fn c_rs1(register: u32) -> u32 {
 
 const C_JR: u32 = 0b1000 << 12 | 0b10;
 const C_JALR: u32 = 0b1001 << 12 | 0b10;
-const C_J: u32 = 0b101 << 13 | 0b01;
-const C_BEQZ: u32 = 0b110 << 13 | 0b01;
-const C_BNEZ: u32 = 0b111 << 13 | 0b01;
+pub(crate) const C_J: u32 = 0b101 << 13 | 0b01;
+pub(crate) const C_BEQZ: u32 = 0b110 << 13 | 0b01;
+pub(crate) const C_BNEZ: u32 = 0b111 << 13 | 0b01;
 
 /// The bits that tell C.JR and C.JALR from all others; with rs2 not 0 they are C.MV and C.ADD.
 const IS_C_REGISTER_JUMP: u32 = C_FUNCT4 | C_RS2 | QUADRANT;
 
 /// The bits that tell C.J, C.BEQZ and C.BNEZ from all others.
-const IS_C_OFFSET_JUMP: u32 = C_FUNCT3 | QUADRANT;
+pub(crate) const IS_C_OFFSET_JUMP: u32 = C_FUNCT3 | QUADRANT;
 
 // The fields of table jumps (Zcmt) and of words that push and pop (Zcmp).
 const CM_FUNCT6: u32 = 0x3f << 10;

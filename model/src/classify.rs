@@ -20,8 +20,8 @@ enum Command {
 pub fn classify(arguments: &[String], input: &[u8]) -> Printed {
     let mut printed = Printed::default();
     match command(arguments) {
-        Ok(Command::ShowUsage) => printed.stdout += USAGE,
-        Ok(Command::Classify { zc }) => printed.stdout += &lines(input, zc),
+        Ok(Command::ShowUsage) => printed.print(USAGE),
+        Ok(Command::Classify { zc }) => printed.print(&lines(input, zc)),
         Err(message) => printed.complain("classify", &message),
     }
     printed
@@ -91,7 +91,7 @@ mod tests {
     fn assert_prints(arguments: &[&str], input: &[u8], stdout: &str, stderr: &str) {
         let arguments: Vec<String> = arguments.iter().map(|word| word.to_string()).collect();
         let expected = Printed {
-            stdout: stdout.to_string(),
+            stdout: stdout.into(),
             stderr: stderr.to_string(),
         };
         assert_eq!(classify(&arguments, input), expected);

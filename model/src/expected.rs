@@ -2,6 +2,7 @@
 //! the traces of examples/.
 
 mod access_sweep;
+mod dump_sweep;
 mod random;
 mod recorder_sweep;
 mod replay_sweep;
@@ -14,11 +15,12 @@ use std::iter::successors;
 use std::path::{Path, PathBuf};
 
 pub use self::access_sweep::access_sweep;
+pub use self::dump_sweep::{dump_sweep, dump_sweep_input};
 pub use self::recorder_sweep::{random_events, recorder_sweep};
 pub use self::replay_sweep::{replay_sweep, replay_sweep_input};
 pub use self::step_bench::{step_bench, step_bench_input};
 pub use self::trace_sweep::trace_sweep;
-use self::traces::{replay_files, setup_files};
+use self::traces::{check_dump_files, replay_files, setup_files};
 use crate::classifier::{length, transfer_type};
 use crate::classify::classify;
 use crate::digest::{extended, xorshift64, SEED};
@@ -30,12 +32,14 @@ pub fn files() -> Vec<(&'static str, Vec<u8>)> {
     let output = classify(&[], &input).stdout;
     let mut files = vec![
         ("crates/classify/stdin", input),
-        ("crates/classify/stdout", output.into_bytes()),
+        ("crates/classify/stdout", output),
         (
             "crates/classifier_sweep/stdout",
             classifier_sweep().into_bytes(),
         ),
         ("crates/access_sweep/stdout", access_sweep().into_bytes()),
+        ("crates/dump_sweep/stdin", dump_sweep_input()),
+        ("crates/dump_sweep/stdout", dump_sweep().into_bytes()),
         ("crates/trace_sweep/stdout", trace_sweep().into_bytes()),
         (
             "crates/recorder_sweep/stdout",
@@ -48,6 +52,7 @@ pub fn files() -> Vec<(&'static str, Vec<u8>)> {
     ];
     files.extend(setup_files());
     files.extend(replay_files());
+    files.extend(check_dump_files());
     files
 }
 

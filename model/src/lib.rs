@@ -10,13 +10,16 @@
 //! directly, by somebody who hasn't looked at our specifications of it.
 
 pub mod access;
+pub mod check_dump;
 pub mod classifier;
 pub mod classify;
 pub mod cycles;
 pub mod digest;
+pub mod dump;
 mod encode;
 pub mod expected;
 pub mod printed;
+mod program;
 pub mod recorder;
 pub mod registers;
 pub mod replay;

@@ -306,8 +306,41 @@ impl Registers {
 }
 
 impl Entry {
+    pub(crate) fn from_words([ctrsource, ctrtarget, ctrdata]: [u64; 3]) -> Entry {
+        Entry {
+            ctrsource,
+            ctrtarget,
+            ctrdata,
+        }
+    }
+
     pub(crate) fn words(&self) -> [u64; 3] {
         [self.ctrsource, self.ctrtarget, self.ctrdata]
+    }
+
+    /// V, which is bit 0 of ctrsource.
+    pub(crate) fn is_valid(&self) -> bool {
+        self.ctrsource & 1 == 1
+    }
+
+    /// MISP, which is bit 0 of ctrtarget.
+    pub(crate) fn is_mispredicted(&self) -> bool {
+        self.ctrtarget & 1 == 1
+    }
+
+    /// Where the transfer comes from, V apart.
+    pub(crate) fn source(&self) -> u64 {
+        self.ctrsource & !1
+    }
+
+    /// Where the transfer goes to, MISP apart.
+    pub(crate) fn target(&self) -> u64 {
+        self.ctrtarget & !1
+    }
+
+    /// TYPE, which is bits 3 to 0 of ctrdata.
+    pub(crate) fn transfer_type(&self) -> u8 {
+        (self.ctrdata & 0xF) as u8
     }
 
     /// What sireg `k` reads of the entry. ctrtarget is read and written whole: bit 0 is MISP.

@@ -7,9 +7,11 @@ mod rows;
 use std::io::{self, Read};
 
 use self::command::{command, Command, Options, USAGE};
+pub(crate) use self::report::path_and_type;
 pub use self::report::{Run, NUMBERS, TYPES, VALUES};
 pub use self::rows::{bytes_of, decode, encode, row_of, BrokenWord, Row, ROW_BYTES};
 use crate::printed::Printed;
+use crate::program::{left_over, of_file, system_words};
 
 const PROGRAM: &str = "replay";
 
@@ -17,13 +19,13 @@ const PROGRAM: &str = "replay";
 pub fn replay<R: Read>(arguments: &[String], open: impl Fn(&str) -> io::Result<R>) -> Printed {
     let mut printed = Printed::default();
     match command(arguments) {
-        Ok(Command::ShowUsage) => printed.stdout += USAGE,
+        Ok(Command::ShowUsage) => printed.print(USAGE),
         Ok(Command::Replay(options, traces)) => {
             for name in traces {
                 let has_title = traces.len() > 1;
                 match open(name) {
                     Ok(file) => printed.add_trace(name, has_title, options, file),
-                    Err(error) => printed.complain(PROGRAM, &of_trace(name, &system_words(&error))),
+                    Err(error) => printed.complain(PROGRAM, &of_file(name, &system_words(&error))),
                 }
             }
         }
@@ -35,7 +37,7 @@ pub fn replay<R: Read>(arguments: &[String], open: impl Fn(&str) -> io::Result<R
 impl Printed {
     fn add_trace(&mut self, name: &str, has_title: bool, options: Options, mut file: impl Read) {
         if has_title {
-            self.stdout += &format!("trace {name}\n");
+            self.print(&format!("trace {name}\n"));
         }
         // If reading fails, what was read before that is there all the same.
         let mut bytes = vec![];
@@ -44,9 +46,9 @@ impl Printed {
         let outcome = self
             .add_run(rows, options)
             .and_then(|()| reading.map_err(|error| system_words(&error)))
-            .and_then(|_| left_over(rows.len(), rest.len()));
+            .and_then(|_| left_over("row", rows.len(), rest.len()));
         if let Err(message) = outcome {
-            self.complain(PROGRAM, &of_trace(name, &message));
+            self.complain(PROGRAM, &of_file(name, &message));
         }
     }
 
@@ -57,40 +59,21 @@ impl Printed {
             let event = decode(row_of(bytes)).map_err(|word| malformed(index, word))?;
             let answer = run.step(event);
             if options.answers {
-                self.stdout += &format!("{} {:#x}\n", answer.number, answer.value);
+                self.print(&format!("{} {:#x}\n", answer.number, answer.value));
             }
             Ok(())
         });
-        self.stdout += &run.report(options.state);
+        if options.dump {
+            self.stdout.extend(run.dump());
+        } else {
+            self.print(&run.report(options.state));
+        }
         outcome
     }
 }
 
-fn of_trace(name: &str, message: &str) -> String {
-    format!("{name}: {message}")
-}
-
 fn malformed(index: usize, word: BrokenWord) -> String {
     format!("row {index}: word {word} breaks a rule")
-}
-
-/// Complains of bytes at the end that are no whole row.
-fn left_over(rows: usize, bytes: usize) -> Result<(), String> {
-    let unit = if bytes == 1 { "byte" } else { "bytes" };
-    match (bytes, rows.checked_sub(1)) {
-        (0, _) => Ok(()),
-        (_, None) => Err(format!("{bytes} {unit} and no row")),
-        (_, Some(last)) => Err(format!("{bytes} {unit} left over after row {last}")),
-    }
-}
-
-/// The system's words, without the number that Rust puts behind them.
-fn system_words(error: &io::Error) -> String {
-    let text = error.to_string();
-    match text.split_once(" (os error ") {
-        Some((words, _)) => words.to_string(),
-        None => text,
-    }
 }
 
 #[cfg(test)]
@@ -153,7 +136,7 @@ mod tests {
     #[track_caller]
     fn assert_prints(arguments: &str, stdout: &str, stderr: &str) {
         let expected = Printed {
-            stdout: stdout.to_string(),
+            stdout: stdout.into(),
             stderr: stderr.to_string(),
         };
         assert_eq!(printed(arguments), expected);
@@ -190,7 +173,7 @@ zc 0x0
 
     #[test]
     fn state_comes_last() {
-        let stdout = printed("--state call").stdout;
+        let stdout = printed("--state call").text();
         let report = report_of(&[TURN_M_ON, CALL]);
         assert!(stdout.starts_with(&format!("{report}0 0x1001 0x2000 0x9\n1 0x0 0x0 0x0\n")));
         assert!(stdout.ends_with("\n255 0x0 0x0 0x0\n"));
@@ -200,6 +183,8 @@ zc 0x0
     #[test]
     fn misp_is_told_of_valid_entries_and_stays_in_the_words_of_all() {
         let printed = printed("--state mispredicted");
+        assert_eq!(printed.stderr, "");
+        let stdout = printed.text();
         let expected = "\
 0 0x1000 -> 0x2000 direct call cycles 0
 1 0x1000 -> 0x2000 direct call mispredicted
@@ -207,15 +192,16 @@ zc 0x0
 1 0x1001 0x2000 0x8009
 2 0x0 0x0 0x0
 ";
-        assert!(printed.stdout.contains(expected), "{}", printed.stdout);
-        assert_eq!(printed.stderr, "");
+        assert!(stdout.contains(expected), "{stdout}");
     }
 
     #[test]
     fn usage_goes_to_standard_output() {
         assert_prints("", USAGE, "");
         assert_prints("--help", USAGE, "");
-        let start = "usage: replay [--answers] [--state] [--zc] TRACE...\nReplays";
+        let start = "usage: replay [--answers] [--state] [--zc] TRACE...
+       replay --dump [--zc] TRACE
+Replays";
         assert!(USAGE.starts_with(start));
         assert!(USAGE.ends_with("four to an event.\n"));
     }
@@ -285,6 +271,72 @@ zc 0x0
         assert_prints("failing", &report, "replay: failing: Is a directory\n");
         let complaint = "replay: directory: Is a directory\n";
         assert_prints("directory", &report_of(&[]), complaint);
+    }
+
+    /// These words of the newest entry, and 15 entries of zeros.
+    fn dump_with(newest: [u64; 3]) -> Vec<u8> {
+        let words = newest.into_iter().chain([0; 15 * 3]);
+        words.flat_map(u64::to_le_bytes).collect()
+    }
+
+    #[track_caller]
+    fn assert_dumps(arguments: &str, stdout: Vec<u8>, stderr: &str) {
+        let expected = Printed {
+            stdout,
+            stderr: stderr.to_string(),
+        };
+        assert_eq!(printed(arguments), expected);
+    }
+
+    #[test]
+    fn a_dump_is_the_entries_alone() {
+        let call = dump_with([0x1001, 0x2000, 9]);
+        assert_eq!(call.len(), 16 * 24);
+        assert_dumps("--dump call", call, "");
+        assert_dumps("--dump --dump empty", dump_with([0; 3]), "");
+        let table_jump = dump_with([0x3001, 0x4000, 11]);
+        assert_dumps("--dump --zc table", table_jump.clone(), "");
+        assert_dumps("--zc --dump --zc table", table_jump, "");
+        assert_dumps("--dump table", dump_with([0; 3]), "");
+    }
+
+    /// MISP and the count among them.
+    #[test]
+    fn a_dump_has_the_words_as_stored() {
+        let mut expected = dump_with([0x1001, 0x2000, 0x8009]);
+        expected.splice(24..48, dump_with([0x1001, 0x2001, 9])[..24].to_vec());
+        assert_dumps("--dump mispredicted", expected, "");
+    }
+
+    #[test]
+    fn a_dump_of_a_damaged_trace_is_that_of_the_rows_before() {
+        for (name, complaint) in [
+            ("damaged", "row 2: word 1 breaks a rule"),
+            ("cut", "31 bytes left over after row 1"),
+            ("failing", "Is a directory"),
+        ] {
+            let complaint = format!("replay: {name}: {complaint}\n");
+            let call = dump_with([0x1001, 0x2000, 9]);
+            assert_dumps(&format!("--dump {name}"), call, &complaint);
+        }
+        for (name, complaint) in [
+            ("malformed", "row 0: word 1 breaks a rule"),
+            ("byte", "1 byte and no row"),
+            ("directory", "Is a directory"),
+        ] {
+            let complaint = format!("replay: {name}: {complaint}\n");
+            assert_dumps(&format!("--dump {name}"), dump_with([0; 3]), &complaint);
+        }
+        assert_prints("--dump none", "", "replay: none: entity not found\n");
+    }
+
+    #[test]
+    fn wrong_company_of_a_dump_runs_nothing() {
+        let message = "replay: --dump goes without --answers and --state\n";
+        assert_prints("--dump --answers call", "", message);
+        assert_prints("--state --dump call none", "", message);
+        assert_prints("--dump call none", "", "replay: --dump takes one trace\n");
+        assert_prints("--zc --dump", "", "replay: no trace given\n");
     }
 
     #[test]

@@ -81,6 +81,8 @@ fn files_are_written_into_folders_that_are_there() {
         "crates/replay_sweep",
         "crates/step_bench",
         "crates/replay/data",
+        "crates/dump_sweep",
+        "crates/check_dump/data",
         "examples/traces",
     ] {
         fs::create_dir_all(root.join(folder)).expect("a new folder");

@@ -1,5 +1,6 @@
 // Replays traces of events through the recorder, each from reset, and prints what it recorded: the
-// answers if asked for, counts, the registers, the history and, if asked for, all entries.
+// answers if asked for, counts, the registers, the history and, if asked for, all entries; or writes
+// the entries alone as a dump.
 mod answers;
 mod input;
 mod output;
@@ -16,6 +17,7 @@ enum Flag {
     Answers,
     State,
     Zc,
+    Dump,
     Help,
     Unknown,
 }
@@ -26,6 +28,7 @@ struct Options {
     answers: bool,
     state: bool,
     zc: bool,
+    dump: bool,
     help: bool,
     is_known: bool,
     first: usize,
@@ -45,6 +48,8 @@ fn flag_of(argument: &[u8]) -> Flag {
         Flag::State
     } else if is_same(argument, b"--zc") {
         Flag::Zc
+    } else if is_same(argument, b"--dump") {
+        Flag::Dump
     } else if is_same(argument, b"--help") {
         Flag::Help
     } else {
@@ -60,6 +65,7 @@ fn with_argument(o: Options, i: usize, argument: &[u8]) -> Options {
         Flag::Answers => next.answers = true,
         Flag::State => next.state = true,
         Flag::Zc => next.zc = true,
+        Flag::Dump => next.dump = true,
         Flag::Help => next.help = true,
         Flag::Unknown => {
             problems::unknown_flag(argument);
@@ -80,6 +86,7 @@ fn read_options(count: usize) -> Options {
         answers: false,
         state: false,
         zc: false,
+        dump: false,
         help: false,
         is_known: true,
         first: count,
@@ -97,7 +104,7 @@ fn read_options(count: usize) -> Options {
 fn print_usage() {
     io::write_all(
         STDOUT_FILENO,
-        b"usage: replay [--answers] [--state] [--zc] TRACE...\nReplays traces of events through the recorder, each from reset, and prints what it recorded.\n  --answers  first the answer to each event: its number, and its value in hex\n  --state    last all physical entries: index, ctrsource, ctrtarget and ctrdata\n  --zc       from a reset with table jumps and pop-returns (Zcmt and Zcmp) switched on\nA trace is a file of little-endian 64-bit words, four to an event.\n",
+        b"usage: replay [--answers] [--state] [--zc] TRACE...\n       replay --dump [--zc] TRACE\nReplays traces of events through the recorder, each from reset, and prints what it recorded.\n  --answers  first the answer to each event: its number, and its value in hex\n  --state    last all physical entries: index, ctrsource, ctrtarget and ctrdata\n  --zc       from a reset with table jumps and pop-returns (Zcmt and Zcmp) switched on\n  --dump     the entries alone, as check_dump takes them: ctrsource, ctrtarget and ctrdata of each up to the depth, newest first\nA trace is a file of little-endian 64-bit words, four to an event.\n",
     );
 }
 
@@ -123,6 +130,17 @@ fn run_traces(count: usize, o: Options) {
     output::flush(&out, at);
 }
 
+// A dump is of one trace, and nothing is beside it.
+fn run_if_possible(count: usize, o: Options) {
+    if o.dump && (o.answers || o.state) {
+        problems::dump_and_text();
+    } else if o.dump && o.several {
+        problems::dump_of_several();
+    } else {
+        run_traces(count, o);
+    }
+}
+
 fn main() {
     let count = os::arg_count();
     let o = read_options(count);
@@ -130,7 +148,7 @@ fn main() {
         if count < 2 || o.help {
             print_usage();
         } else if o.first < count {
-            run_traces(count, o);
+            run_if_possible(count, o);
         } else {
             problems::no_trace();
         }

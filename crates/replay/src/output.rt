@@ -1,6 +1,5 @@
 // Standard output by way of a page, a buffer that is written when it is nearly full.
 use libc::STDOUT_FILENO;
-use std::num::wrapping_add_u64;
 
 // No line but a trace's name is longer than 128 bytes, and a page of 65,536 has room for one more
 // up to here.
@@ -31,33 +30,4 @@ fn make_room(out: &[u8], at: usize) -> usize {
 pub(crate) fn end_line(out: &mut [u8], at: usize) -> usize {
     let next = text::put_byte(out, at, b'\n');
     make_room(out, next)
-}
-
-fn put_byte_if(out: &mut [u8], at: usize, b: u8, asked: bool) -> usize {
-    if asked {
-        text::put_byte(out, at, b)
-    } else {
-        at
-    }
-}
-
-// The line that comes after a byte of line n.
-fn line_after(b: u8, n: u64) -> u64 {
-    if b == b'\n' {
-        wrapping_add_u64(n, 1)
-    } else {
-        n
-    }
-}
-
-// Line n of some lines, counted from 0.
-pub(crate) fn put_line(out: &mut [u8], at: usize, lines: &[u8], n: u64) -> usize {
-    let mut next = at;
-    let mut line = 0;
-    for i in 0..lines.len() {
-        let b = lines[i];
-        next = put_byte_if(out, next, b, line == n && b != b'\n');
-        line = line_after(b, line);
-    }
-    next
 }

@@ -73,3 +73,14 @@ pub(crate) fn unknown_flag(flag: &[u8]) {
 pub(crate) fn no_trace() {
     io::write_all(STDERR_FILENO, b"replay: no trace given\n");
 }
+
+pub(crate) fn dump_and_text() {
+    io::write_all(
+        STDERR_FILENO,
+        b"replay: --dump goes without --answers and --state\n",
+    );
+}
+
+pub(crate) fn dump_of_several() {
+    io::write_all(STDERR_FILENO, b"replay: --dump takes one trace\n");
+}

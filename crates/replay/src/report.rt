@@ -2,7 +2,8 @@
 ghost use Prim.Native.Nat.{_<_};
 ghost use Rattle.recorder.specs.Entries.{entries};
 use crate::output::end_line;
-use crate::output::put_line;
+use history::put_line;
+use history::put_path;
 use machine::Buffer;
 use machine::Entry;
 use machine::Mode;
@@ -110,23 +111,6 @@ pub(crate) fn put_registers(out: &mut [u8], at: usize, r: Registers) -> usize {
     next
 }
 
-// TYPE of ctrdata in words.
-fn put_type(out: &mut [u8], at: usize, number: u64) -> usize {
-    put_line(
-        out,
-        at,
-        b"none\nexception\ninterrupt\ntrap return\nbranch not taken\nbranch taken\nreserved\nreserved\nindirect call\ndirect call\nindirect jump\ndirect jump\nco-routine swap\nfunction return\nother indirect jump\nother direct jump",
-        number,
-    )
-}
-
-// Source pc and target pc.
-fn put_addresses(out: &mut [u8], at: usize, e: Entry) -> usize {
-    let mut next = text::put_short_hex(out, at, bits::clear_bit0(e.ctrsource));
-    next = text::put(out, next, b" -> ");
-    text::put_short_hex(out, next, bits::clear_bit0(e.ctrtarget))
-}
-
 // An index, and a space after it.
 fn put_index(out: &mut [u8], at: usize, i: u64) -> usize {
     let next = text::put_decimal(out, at, i);
@@ -160,9 +144,7 @@ fn put_misp(out: &mut [u8], at: usize, ctrtarget: u64) -> usize {
 // A line of the history: logical index, addresses, type, count and misprediction.
 fn put_transfer(out: &mut [u8], at: usize, i: u64, e: Entry) -> usize {
     let mut next = put_index(out, at, i);
-    next = put_addresses(out, next, e);
-    next = text::put_byte(out, next, b' ');
-    next = put_type(out, next, bits::low(e.ctrdata, 4));
+    next = put_path(out, next, e.ctrsource, e.ctrtarget, e.ctrdata);
     next = put_cycles_if_valid(out, next, e.ctrdata);
     next = put_misp(out, next, e.ctrtarget);
     end_line(out, next)
@@ -177,6 +159,31 @@ fn put_if_valid(out: &mut [u8], at: usize, i: u64, e: Entry) -> usize {
     }
 }
 
+// A word of a dump: eight bytes, the lowest first.
+fn put_word(out: &mut [u8], at: usize, word: u64) -> usize {
+    let mut next = at;
+    for i in 0..8 {
+        next = text::put_byte(out, next, bits::field64(word, 8 * i, 8) as u8);
+    }
+    next
+}
+
+// An entry of a dump.
+fn put_dumped(out: &mut [u8], at: usize, e: Entry) -> usize {
+    let mut next = put_word(out, at, e.ctrsource);
+    next = put_word(out, next, e.ctrtarget);
+    put_word(out, next, e.ctrdata)
+}
+
+// A logical entry in the history or, if asked for, in a dump.
+fn put_logical(out: &mut [u8], at: usize, i: u64, e: Entry, dump: bool) -> usize {
+    if dump {
+        put_dumped(out, at, e)
+    } else {
+        put_if_valid(out, at, i, e)
+    }
+}
+
 // The index of logical entry i.
 fn index_of(b: Buffer, i: u64) -> usize
     ensures { λ p. ⌜ p < entries ⌝ }
@@ -184,7 +191,7 @@ fn index_of(b: Buffer, i: u64) -> usize
     physical(b.code, b.wrptr, i) as usize
 }
 
-// The valid entries, newest first.
+// The valid entries, newest first; in a dump all up to the depth.
 pub(crate) fn put_history(
     out: &mut [u8],
     at: usize,
@@ -192,6 +199,7 @@ pub(crate) fn put_history(
     ctrsource: &[u64; ENTRIES],
     ctrtarget: &[u64; ENTRIES],
     ctrdata: &[u64; ENTRIES],
+    dump: bool,
 ) -> usize {
     let mut next = at;
     for i in 0..depth(b.code) {
@@ -201,7 +209,7 @@ pub(crate) fn put_history(
             ctrtarget: ctrtarget[p],
             ctrdata: ctrdata[p],
         };
-        next = put_if_valid(out, next, i, e);
+        next = put_logical(out, next, i, e, dump);
     }
     next
 }

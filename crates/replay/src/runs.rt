@@ -197,8 +197,26 @@ fn put_run(
     let b = r.buffer;
     let mut next = put_counts(out, run.at, counts, run.rows);
     next = put_registers(out, next, r);
-    next = put_history(out, next, b, ctrsource, ctrtarget, ctrdata);
+    next = put_history(out, next, b, ctrsource, ctrtarget, ctrdata, false);
     put_entries_if(out, next, ctrsource, ctrtarget, ctrdata, state)
+}
+
+// The same, or the entries alone as a dump. It is of one trace, and the page is long enough for it.
+fn put_all(
+    out: &mut [u8],
+    run: Run,
+    counts: &[u64; COUNTS],
+    ctrsource: &[u64; ENTRIES],
+    ctrtarget: &[u64; ENTRIES],
+    ctrdata: &[u64; ENTRIES],
+    o: Options,
+) -> usize {
+    if o.dump {
+        let b = run.registers.buffer;
+        put_history(out, run.at, b, ctrsource, ctrtarget, ctrdata, true)
+    } else {
+        put_run(out, run, counts, ctrsource, ctrtarget, ctrdata, o.state)
+    }
 }
 
 // Writes the page, and tells what ended the run.
@@ -240,7 +258,7 @@ fn replay_file(out: &mut [u8], at: usize, name: &[u8], fd: i32, o: Options) -> u
         started(at, o.answers, registers),
     );
     tell_failure(name, run.failed);
-    let next = put_run(out, run, &counts, &ctrsource, &ctrtarget, &ctrdata, o.state);
+    let next = put_all(out, run, &counts, &ctrsource, &ctrtarget, &ctrdata, o);
     finish(out, next, name, run)
 }
 

@@ -1,15 +1,18 @@
-//! The setups of the sample traces, and what `replay` is fed with: the samples behind their setups,
-//! a trace with every kind of row, and a damaged trace. Parts of the samples, likewise behind setups,
-//! are what `replay_sweep` is fed with.
+//! The setups of the sample traces, the image of the user program, and what `replay` is fed with: the
+//! samples behind their setups, a trace with every kind of row, and a damaged trace. Parts of the
+//! samples, likewise behind setups, are what `replay_sweep` is fed with; the image and a dump of the
+//! user program's history are what `check_dump` is.
 
 use std::{io, iter};
 
 use crate::access::{Access, Operation};
+use crate::check_dump::check_dump;
+use crate::classifier::length;
 use crate::printed::Printed;
 use crate::recorder::{Event, Retired, Trap, TrapReturn};
 use crate::registers::csr::{MCTRCTL, SCTRCTL, SCTRDEPTH, SISELECT, VSCTRCTL, VSISELECT};
 use crate::registers::Mode;
-use crate::replay::{bytes_of, encode, replay, row_of, Row, ROW_BYTES};
+use crate::replay::{bytes_of, decode, encode, replay, row_of, Row, ROW_BYTES};
 
 const USER: &[u8] = include_bytes!("../../../examples/traces/user.rows");
 const GUEST: &[u8] = include_bytes!("../../../examples/traces/guest.rows");
@@ -39,6 +42,14 @@ const ALL_BRANCHES: Setup = &[
 /// The row of the user sample where M returns to the user program, which is soon interrupted.
 const RETURN_TO_USER: usize = 2189;
 
+/// Where the user program of the user sample lies.
+const USER_BASE: u64 = 0x8040_0000;
+
+/// The entry of the history whose target is changed in the dump, a direct call.
+const CHANGED: usize = 10;
+
+const CHECK_ARGUMENTS: [&str; 3] = ["user.image", "0x80400000", "changed.dump"];
+
 /// One more CSR number than there is.
 const NO_CSR: u64 = 4096;
 
@@ -58,13 +69,14 @@ const ARGUMENTS: [&str; 6] = [
     "damaged.rows",
 ];
 
-/// The setups: path from the repository's root, and contents.
+/// The setups and the image: path from the repository's root, and contents.
 pub(super) fn setup_files() -> Vec<(&'static str, Vec<u8>)> {
     vec![
         ("examples/traces/history.setup", setup(HISTORY)),
         ("examples/traces/external.setup", setup(EXTERNAL)),
         ("examples/traces/call-stack.setup", setup(CALL_STACK)),
         ("examples/traces/guest.setup", setup(ALL_MODES)),
+        ("examples/traces/user.image", user_image()),
     ]
 }
 
@@ -79,8 +91,55 @@ pub(super) fn replay_files() -> Vec<(&'static str, Vec<u8>)> {
             "crates/replay/args",
             ARGUMENTS.map(line).concat().into_bytes(),
         ),
-        ("crates/replay/stdout", printed().stdout.into_bytes()),
+        ("crates/replay/stdout", printed().stdout),
     ]
+}
+
+/// The files of `check_dump`, likewise.
+pub(super) fn check_dump_files() -> Vec<(&'static str, Vec<u8>)> {
+    let (image, dump) = (user_image(), changed_dump());
+    let open = |name: &str| match name {
+        "user.image" => Ok(&image[..]),
+        "changed.dump" => Ok(&dump[..]),
+        _ => Err(io::ErrorKind::NotFound.into()),
+    };
+    let printed = check_dump(&CHECK_ARGUMENTS.map(String::from), open);
+    vec![
+        ("crates/check_dump/data/user.image", image.clone()),
+        ("crates/check_dump/data/changed.dump", dump.clone()),
+        (
+            "crates/check_dump/args",
+            CHECK_ARGUMENTS.map(line).concat().into_bytes(),
+        ),
+        ("crates/check_dump/stdout", printed.stdout),
+    ]
+}
+
+/// The words of the user program that the sample has, where they lie, with zeros between them.
+fn user_image() -> Vec<u8> {
+    let mut image = vec![];
+    for row in rows(USER) {
+        let Ok(Event::Retired(Retired { word, pc, .. })) = decode(row) else {
+            continue;
+        };
+        let Some(place) = pc.checked_sub(USER_BASE) else {
+            continue;
+        };
+        let start = place as usize;
+        let end = start + usize::from(length(word));
+        image.resize(image.len().max(end), 0);
+        image[start..end].copy_from_slice(&word.to_le_bytes()[..end - start]);
+    }
+    image
+}
+
+/// A dump of the user program's history, with one target two bytes further on.
+fn changed_dump() -> Vec<u8> {
+    let trace = [&setup(HISTORY), USER].concat();
+    let arguments = ["--dump", "trace"].map(String::from);
+    let mut dump = replay(&arguments, |_| Ok(&trace[..])).stdout;
+    dump[CHANGED * 24 + 8] += 2;
+    dump
 }
 
 fn line(word: &str) -> String {
@@ -237,14 +296,13 @@ fn printed() -> Printed {
 #[cfg(test)]
 mod tests {
     use super::*;
-    use crate::replay::decode;
     use std::collections::BTreeSet;
 
     fn report_of(setup_writes: Setup, trace: &[u8]) -> String {
         let bytes = [&setup(setup_writes), trace].concat();
         let printed = replay(&["trace".to_string()], |_| Ok(&bytes[..]));
         assert_eq!(printed.stderr, "");
-        printed.stdout
+        printed.text()
     }
 
     /// The valid entries, newest first, without their indices.
@@ -376,6 +434,21 @@ mod tests {
 
     fn head(row: &[u8]) -> u16 {
         u16::from_le_bytes([row[0], row[1]])
+    }
+
+    /// Once the target is put back, the dump fits.
+    #[test]
+    fn the_changed_dump_has_one_target_wrong() {
+        let image = user_image();
+        let mut dump = changed_dump();
+        let line = |dump: &[u8]| {
+            let open = |name: &str| Ok(if name == "user.image" { &image } else { dump });
+            check_dump(&CHECK_ARGUMENTS.map(String::from), open).text()
+        };
+        let expected = "entry 10: target wrong: 0x80400182 -> 0x80400a78 direct call\n";
+        assert_eq!(line(&dump), expected);
+        dump[CHANGED * 24 + 8] -= 2;
+        assert_eq!(line(&dump), "accepted\n");
     }
 
     #[test]

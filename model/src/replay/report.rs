@@ -45,13 +45,6 @@ pub const TYPES: [&str; 16] = [
     "other direct jump",
 ];
 
-// Bit 0 of ctrsource and of ctrtarget; addresses are shown without them.
-const V: u64 = 1;
-const MISP: u64 = 1;
-
-/// The TYPE field of ctrdata.
-const TYPE: u64 = 0xF;
-
 /// The recorder after some events from reset, and how often each answer was given.
 #[derive(Debug)]
 pub struct Run {
@@ -95,6 +88,14 @@ impl Run {
         }
         text
     }
+
+    /// The words of the entries in use, valid or not, in logical order: the bytes that a dump has.
+    pub fn dump(&self) -> Vec<u8> {
+        entries_in_use(&self.machine)
+            .flat_map(|entry| entry.words())
+            .flat_map(u64::to_le_bytes)
+            .collect()
+    }
 }
 
 /// The words of what occurred, each with how often it did.
@@ -126,32 +127,38 @@ fn registers(registers: &Registers) -> String {
     format!("mode {:?}\n", registers.mode) + &lines.concat()
 }
 
+/// Logical entries from 0 up to the depth.
+fn entries_in_use(machine: &Machine) -> impl Iterator<Item = Entry> + '_ {
+    let registers = &machine.registers;
+    (0..registers.depth()).map(|index| machine.entries[registers.physical_entry(index) as usize])
+}
+
 /// The valid ones of the entries in use, in logical order.
 fn valid_entries(machine: &Machine) -> String {
-    let registers = &machine.registers;
-    (0..registers.depth())
-        .map(|index| {
-            (
-                index,
-                machine.entries[registers.physical_entry(index) as usize],
-            )
-        })
-        .filter(|(_, entry)| entry.ctrsource & V == V)
+    (0..)
+        .zip(entries_in_use(machine))
+        .filter(|(_, entry)| entry.is_valid())
         .map(|(index, entry)| transfer(index, entry))
         .collect()
 }
 
 /// The count of cycles is shown only if it is valid. Of MISP there is a word if it is 1.
 fn transfer(index: u64, entry: Entry) -> String {
-    let (source, target) = (entry.ctrsource & !V, entry.ctrtarget & !MISP);
-    let name = TYPES[(entry.ctrdata & TYPE) as usize];
+    let path = path_and_type(entry);
     let count = valid_count(entry.ctrdata).map_or(String::new(), |n| format!(" cycles {n}"));
-    let misp = if entry.ctrtarget & MISP == MISP {
+    let misp = if entry.is_mispredicted() {
         " mispredicted"
     } else {
         ""
     };
-    format!("{index} {source:#x} -> {target:#x} {name}{count}{misp}\n")
+    format!("{index} {path}{count}{misp}\n")
+}
+
+/// Where a transfer comes from, where it goes to, and what it is.
+pub(crate) fn path_and_type(entry: Entry) -> String {
+    let (source, target) = (entry.source(), entry.target());
+    let name = TYPES[usize::from(entry.transfer_type())];
+    format!("{source:#x} -> {target:#x} {name}")
 }
 
 fn physical_entries(entries: &[Entry]) -> String {
@@ -395,7 +402,7 @@ zc 0x0
             (0xFFFF_8009, 134_201_344),
         ] {
             let entry = Entry {
-                ctrsource: V,
+                ctrsource: 1,
                 ctrtarget: 0,
                 ctrdata,
             };
@@ -494,6 +501,59 @@ zc 0x0
         assert_eq!(lines[3], "3 0x3000 0x4000 0x9");
         assert_eq!(lines[16], "16 0x5001 0x6000 0x1");
         assert_eq!(lines[255], "255 0x0 0x0 0x0");
+    }
+
+    /// The words of a dump, three to an entry.
+    fn dump_of(machine: Machine) -> Vec<[u64; 3]> {
+        let mut run = Run::from_reset(false);
+        run.machine = machine;
+        let bytes = run.dump();
+        let (words, rest) = bytes.as_chunks();
+        assert_eq!(rest, [0; 0]);
+        let words: Vec<u64> = words.iter().copied().map(u64::from_le_bytes).collect();
+        let (entries, rest) = words.as_chunks();
+        assert_eq!(rest, [0; 0]);
+        entries.to_vec()
+    }
+
+    /// Entry 3, not valid, is logical entry 14, and entry 16 is beyond the depth.
+    #[test]
+    fn a_dump_has_the_words_of_all_entries_in_use_in_logical_order() {
+        let mut expected = [[0; 3]; 16];
+        expected[0] = [0x1001, 0x2003, 0xFFF8];
+        expected[14] = [0x3000, 0x4000, 0x9];
+        expected[15] = [0x1, 0x0, 0xFFFF_7FF6];
+        assert_eq!(dump_of(machine_with_entries()), expected);
+    }
+
+    /// Logical entry i is physical entry 1 - i modulo the depth.
+    #[test]
+    fn a_dump_goes_up_to_the_depth() {
+        for (code, depth) in [(0, 16), (1, 32), (2, 64), (3, 128), (4, 256)] {
+            let mut machine = machine_with_entries();
+            machine.registers.depth_code = code;
+            let dump = dump_of(machine);
+            assert_eq!(dump.len(), depth);
+            assert_eq!(dump[0], [0x1001, 0x2003, 0xFFF8]);
+            assert_eq!(dump[depth - 1], [0x1, 0x0, 0xFFFF_7FF6]);
+            assert_eq!(dump[depth - 2], [0x3000, 0x4000, 0x9]);
+            if depth > 16 {
+                assert_eq!(dump[depth - 15], [0x5001, 0x6000, 0x1]);
+            }
+        }
+    }
+
+    #[test]
+    fn words_of_a_dump_are_little_endian() {
+        let mut run = Run::from_reset(false);
+        run.machine.registers.wrptr = 1;
+        run.machine.entries[0] = Entry {
+            ctrsource: 0x0807_0605_0403_0201,
+            ctrtarget: 0x100F_0E0D_0C0B_0A09,
+            ctrdata: 0x1817_1615_1413_1211,
+        };
+        let expected: Vec<u8> = (1..=24).chain([0; 15 * 24]).collect();
+        assert_eq!(run.dump(), expected);
     }
 
     #[test]

@@ -7,10 +7,10 @@ use Rattle.replay.proofs.report.put_history.Statement.{statement}
 use Rattle.replay.proofs.report.put_history.Tie as tie
 
 abbrev Inv-loop : tie.InvT-loop
-Inv-loop out₀ at b ctrsource ctrtarget ctrdata next₀ i₀ i-end out next i = (i ≤ i-end) × (length out ≡ length out₀)
+Inv-loop out₀ at b ctrsource ctrtarget ctrdata dump next₀ i₀ i-end out next i = (i ≤ i-end) × (length out ≡ length out₀)
 
 abbrev μ-loop : tie.MeasureT-loop
-μ-loop out₀ at b ctrsource ctrtarget ctrdata next₀ i₀ i-end out next i = i-end - i
+μ-loop out₀ at b ctrsource ctrtarget ctrdata dump next₀ i₀ i-end out next i = i-end - i
 
 pub put-history-spec : {M : Type 1} → statement M
 put-history-spec =
