@@ -1,6 +1,8 @@
 // Accesses every listed CSR number and its neighbours, with every operation, in every mode and in
 // many states, bad ones among them, and prints how often each number was answered and digests of
 // answers, registers and entries. The gate compares it with what the model prints.
+#![tactic(auto)]
+
 use libc::STDOUT_FILENO;
 use machine::answers::{number_index, refuse};
 use machine::controls::{MCTRCTL_MASK, SCTRCTL_MASK};

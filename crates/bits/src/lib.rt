@@ -1,5 +1,7 @@
 // Bits, fields, masks and ranges of words: shifts and masks in the code, plain arithmetic in the contracts.
 // A position past the word reads 0, so no function asks anything of its arguments.
+#![tactic(auto)]
+
 ghost use Rattle.std.specs.Prelude.{◌≡◌, ◌+◌, ◌*◌, ◌/◌, ◌%◌, ◌^◌, eqb};
 ghost use Rattle.bits.specs.Choice.{if◌then◌else◌};
 ghost use Rattle.bits.specs.Words.{bit_at, field_at, keep, joined, without, is_from_to};

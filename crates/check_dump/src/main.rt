@@ -1,5 +1,7 @@
 // Checks a dump of entries against firmware and prints a line: that it is accepted, why it is refused, or
 // the first entry that does not fit, and why.
+#![tactic(auto)]
+
 mod arguments;
 mod bases;
 mod checks;

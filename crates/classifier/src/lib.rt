@@ -1,4 +1,6 @@
 // The word classifier: which control transfer an instruction word is, and its length (docs/RULES.md, T).
+#![tactic(auto)]
+
 pub mod exports;
 mod fields;
 mod runs;

@@ -1,6 +1,8 @@
 // Classifies whole groups of words, with the switch off and on, and prints, for each group, how many
 // words have each type and each length and a digest of words, types and lengths. The gate compares it
 // with what the model prints.
+#![tactic(auto)]
+
 use classifier::exports::{ctr_classify, ctr_classify_all, ctr_length};
 use libc::STDOUT_FILENO;
 use std::num::{wrapping_add_u32, wrapping_add_u64, wrapping_sub_u64};

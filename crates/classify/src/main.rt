@@ -1,5 +1,7 @@
 // Reads little-endian 32-bit words from standard input and prints a line for each: the word, the
 // number of its transfer type (a branch as taken) and the type's name. With --zc the switch is on.
+#![tactic(auto)]
+
 ghost use Rattle.std.specs.Prelude.{◌+◌, ◌*◌, ◌≤◌, ◌<◌, length};
 
 use libc::{STDERR_FILENO, STDIN_FILENO, STDOUT_FILENO};

@@ -1,4 +1,6 @@
 // CSR numbers and the access steps: which register a number reaches, and why an access is refused (docs/RULES.md, R).
+#![tactic(auto)]
+
 pub mod numbers;
 pub mod steps;
 

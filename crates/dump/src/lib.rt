@@ -1,5 +1,7 @@
 // Checks a dump, entries read from a board, against firmware: whether every valid entry fits, as a trap, a trap return or a transfer
 // that the code at its source makes; or the first that does not, and why (docs/RULES.md, F).
+#![tactic(auto)]
+
 mod fetch;
 mod offsets;
 

@@ -3,6 +3,8 @@
 // both ends of the address space, in its middle and elsewhere, and the switch is off and on. Prints, for
 // each group of changes, how often each answer was given, and a digest of all answers. The gate compares
 // it with what the model prints.
+#![tactic(auto)]
+
 ghost use Rattle.std.specs.Prelude.{◌<◌, ◌≤◌};
 
 mod cases;

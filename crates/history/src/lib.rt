@@ -1,4 +1,6 @@
 // One of several lines, and the line of an entry of a history.
+#![tactic(auto)]
+
 ghost use Rattle.std.specs.Prelude.{◌≡◌, ◌+◌, ◌^◌, ◌≤◌, ◌<◌, eqb};
 ghost use Rattle.bits.specs.Choice.{if◌then◌else◌};
 ghost use Rattle.text.specs.Page.{page, with_byte, written};

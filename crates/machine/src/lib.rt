@@ -1,4 +1,6 @@
 // The machine that the recorder watches: modes, registers and events (docs/RULES.md, S and R).
+#![tactic(auto)]
+
 pub mod answers;
 pub mod controls;
 pub mod depths;

@@ -1,5 +1,7 @@
 // The recorder: a state with its entries, and one step, by value or in place, of any event or of one kind
 // (docs/RULES.md, S).
+#![tactic(auto)]
+
 mod indexes;
 pub mod kinds;
 pub mod steps;

@@ -1,5 +1,7 @@
 // Runs the recorder on the published cases, on long random lists of events, and on pairs of lists
 // that differ only where modes are off. The gate compares what it prints with what the model prints.
+#![tactic(auto)]
+
 mod bench_lines;
 mod causes;
 mod counts;

@@ -1,6 +1,8 @@
 // Replays traces of events through the recorder, each from reset, and prints what it recorded: the
 // answers if asked for, counts, the registers, the history and, if asked for, all entries; or writes
 // the entries alone as a dump.
+#![tactic(auto)]
+
 mod answers;
 mod input;
 mod output;

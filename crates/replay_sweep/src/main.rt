@@ -2,6 +2,8 @@
 // answers or too few: each whole and by value, and one of three also in place, cut in two before and
 // after each row. Then replays rows of which one is malformed. Prints counts of what the runs gave, and
 // a digest of all that they gave and left. The gate compares it with what the model prints.
+#![tactic(auto)]
+
 mod answer_words;
 mod cuts;
 mod input;

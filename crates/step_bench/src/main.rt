@@ -1,6 +1,8 @@
 // Runs calls through the recorder at its largest depth, step by step, so that the three forms of a step
 // can be timed: a round for each byte of standard input, v for by value, p for in place, k for in place
 // by its kind. Prints of each round a digest of its answers and of the state after it.
+#![tactic(auto)]
+
 use libc::{STDIN_FILENO, STDOUT_FILENO};
 use machine::{CsrAccess, Event, Operation, RetiredWord};
 use recorder::State;

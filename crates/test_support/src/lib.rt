@@ -1,4 +1,6 @@
 // What the test programs share: pseudo-random words from a fixed seed, and a digest of the words that a test saw.
+#![tactic(auto)]
+
 ghost use Rattle.std.specs.Prelude.{◌≡◌};
 ghost use Rattle.test_support.specs.Words.{xorshift, rotated, digested};
 

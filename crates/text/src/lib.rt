@@ -1,5 +1,7 @@
 // ASCII text into a lent buffer. Each function writes at a place and answers the next one. What does not fit is dropped,
 // so no public function asks anything of its arguments.
+#![tactic(auto)]
+
 ghost use Rattle.std.specs.Prelude.{◌≡◌, ◌/◌, ◌%◌, ◌^◌, ◌≤◌, ◌<◌, length, take, ◌&&◌};
 ghost use Rattle.text.specs.Page.{page, with_byte, written};
 ghost use Rattle.text.specs.Digits.{glyph, digits, number, prefix};

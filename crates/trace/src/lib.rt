@@ -1,4 +1,6 @@
 // Traces: rows of four 64-bit words, one to an event, and whole runs of them (docs/RULES.md, W).
+#![tactic(auto)]
+
 pub mod codes;
 pub mod rows;
 pub mod runs;

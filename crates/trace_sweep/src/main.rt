@@ -1,6 +1,8 @@
 // Decodes rows of all kinds, with each rule broken in each word, and prints how many are an event of
 // each kind, in how many each word is the first to break a rule, and a digest of all that was decoded.
 // The gate compares it with what the model prints.
+#![tactic(auto)]
+
 use libc::STDOUT_FILENO;
 use machine::{CsrAccess, Enables, Event, RetiredWord, ReturnTo, TrapTo};
 use std::num::wrapping_add_u64;
