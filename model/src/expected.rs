@@ -10,7 +10,6 @@ mod step_bench;
 mod trace_sweep;
 mod traces;
 
-use std::fmt::Display;
 use std::fs;
 use std::iter::successors;
 use std::path::{Path, PathBuf};
@@ -26,7 +25,6 @@ use crate::classifier::{length, transfer_type};
 use crate::classify::classify;
 use crate::digest::{extended, xorshift64, SEED};
 use crate::encode::{branch, c_jalr, c_jr, jal, jalr};
-use crate::replay::{place_of_number, NUMBERS};
 
 /// The stored files: path from the repository's root, and contents.
 pub fn files() -> Vec<(&'static str, Vec<u8>)> {
@@ -73,14 +71,6 @@ pub fn write_files(root: &Path) -> Result<(), String> {
         fs::write(root.join(path), contents).map_err(|error| format!("{path}: {error}"))?;
     }
     Ok(())
-}
-
-/// How often each number was answered, in the order of `NUMBERS`.
-fn number_lines(counts: &[impl Display; NUMBERS.len()]) -> String {
-    let numbers = [0, 1, 2, 3, 4, 5, 8].into_iter();
-    numbers
-        .map(|number| format!("  number {number} {}\n", counts[place_of_number(number)]))
-        .collect()
 }
 
 /// The bytes that `classify` is fed with: many words, and three bytes of a further one.

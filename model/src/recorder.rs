@@ -3,9 +3,9 @@
 
 mod qualifying;
 
-pub(crate) use self::qualifying::is_possible_trap;
 use self::qualifying::{
-    is_emulating, is_inhibited, is_possible_return, EXCEPTION, INTERRUPT, TRAP_RETURN,
+    is_emulating, is_inhibited, is_possible_return, is_possible_trap, EXCEPTION, INTERRUPT,
+    TRAP_RETURN,
 };
 use crate::access::{granted, refused, Access, Answer, BAD_STATE, GRANTED};
 use crate::classifier::{transfer_type, DIRECT_CALL, INDIRECT_CALL, NONE, RETURN, SWAP};
@@ -16,12 +16,6 @@ pub const ENTRIES: usize = 256;
 
 /// The number answered if the mode change is not possible.
 const NOT_POSSIBLE: u8 = 4;
-
-/// The number answered if the cause of a trap is too large, whether the trap is possible or not.
-pub(crate) const BAD_CAUSE: u8 = 8;
-
-/// Causes are below this, those of interrupts and those of exceptions.
-const CAUSES: u64 = 64;
 
 // The values of retired words, traps and trap returns.
 const NOTHING: u64 = 0;
@@ -152,9 +146,6 @@ impl Machine {
     }
 
     fn trap(&mut self, trap: &Trap) -> Answer {
-        if trap.cause >= CAUSES {
-            return refused(BAD_CAUSE);
-        }
         if !is_possible_trap(self.registers.mode, trap.target_mode) {
             return refused(NOT_POSSIBLE);
         }

@@ -8,7 +8,7 @@ use std::io::{self, Read};
 
 use self::command::{command, Command, Options, USAGE};
 pub(crate) use self::report::path_and_type;
-pub use self::report::{place_of_number, Run, NUMBERS, TYPES, VALUES};
+pub use self::report::{Run, NUMBERS, TYPES, VALUES};
 pub use self::rows::{bytes_of, decode, encode, row_of, BrokenWord, Row, ROW_BYTES};
 use crate::printed::Printed;
 use crate::program::{left_over, of_file, system_words};

@@ -414,8 +414,8 @@ fn freezing_goes_by_kind_cause_and_target() {
         (true, 13, LCOFIFRZ),
         (true, 3, 0),
         (false, 13, 0),
-        (false, 32 | 3, 0),
-        (true, 48 | 13, 0),
+        (false, 1 << 32 | 3, 0),
+        (true, 1 << 63 | 13, 0),
     ];
     for (source, target) in pairs(POSSIBLE_TRAPS) {
         for (is_interrupt, cause, bit) in cases {

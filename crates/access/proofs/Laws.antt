@@ -26,7 +26,7 @@ use Rattle.machine.specs.declared.Effect.TheVariants.{Keep, Put}
 use Rattle.machine.specs.declared.Decision.{Decision}
 use Rattle.machine.specs.declared.Operation.{Operation}
 use Rattle.machine.specs.declared.Verdict.{Verdict}
-use Rattle.machine.specs.declared.Verdict.TheVariants.{Accepted, IllegalInstruction, VirtualInstruction, NoSuchRegister, ChangeNotPossible, BadState, CauseTooLarge}
+use Rattle.machine.specs.declared.Verdict.TheVariants.{Accepted, IllegalInstruction, VirtualInstruction, NoSuchRegister, ChangeNotPossible, BadState}
 use Rattle.csr.specs.Numbers.{register_of, csr_in}
 use Rattle.csr.specs.Steps.{facts_of, sctrclr_facts, refusal_of}
 use Rattle.csr.specs.declared.Facts.{Facts}
@@ -82,7 +82,6 @@ unless_number VirtualInstruction r d e = refl
 unless_number NoSuchRegister r d e = refl
 unless_number ChangeNotPossible r d e = refl
 unless_number BadState r d e = refl
-unless_number CauseTooLarge r d e = refl
 
 access_number : (r : Registers) (old : Entry) (a : CsrAccess)
     → (access_of r old a).number ≡ number_of (refusal_of r (facts_of r (register_of a.number)))

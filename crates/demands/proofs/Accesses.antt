@@ -28,7 +28,7 @@ use Rattle.machine.specs.declared.Operation.{Operation}
 use Rattle.machine.specs.declared.Operation.TheVariants.{Read, Write, Set, Clear}
 use Rattle.machine.specs.declared.Registers.{Registers}
 use Rattle.machine.specs.declared.Verdict.{Verdict}
-use Rattle.machine.specs.declared.Verdict.TheVariants.{Accepted, IllegalInstruction, VirtualInstruction, NoSuchRegister, ChangeNotPossible, BadState, CauseTooLarge}
+use Rattle.machine.specs.declared.Verdict.TheVariants.{Accepted, IllegalInstruction, VirtualInstruction, NoSuchRegister, ChangeNotPossible, BadState}
 use Rattle.machine.proofs.DepthLaws.{depth_le}
 use Rattle.csr.specs.Numbers.{register_of, view_in, csr_in}
 use Rattle.csr.specs.Steps.{select_of, selection_of, facts_of, sctrclr_facts, refusal_of}
@@ -62,7 +62,6 @@ accepts VirtualInstruction h = absurd (false≢true h)
 accepts NoSuchRegister h = absurd (false≢true h)
 accepts ChangeNotPossible h = absurd (false≢true h)
 accepts BadState h = absurd (false≢true h)
-accepts CauseTooLarge h = absurd (false≢true h)
 
 accepts_not : (v : Verdict) → is_accepted v ≡ false → number_of v ≡ 0 → ⊥
 accepts_not Accepted h z = false≢true (sym h)
@@ -71,7 +70,6 @@ accepts_not VirtualInstruction h z = omega (arith, z)
 accepts_not NoSuchRegister h z = omega (arith, z)
 accepts_not ChangeNotPossible h z = omega (arith, z)
 accepts_not BadState h z = omega (arith, z)
-accepts_not CauseTooLarge h z = omega (arith, z)
 
 -- a granted access is what the definition grants
 module _ (s : State) (a : CsrAccess) where

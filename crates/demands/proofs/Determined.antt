@@ -35,11 +35,8 @@ same_stepped a b p q t = λ i. record { number = p i; value = q i; state = t i }
 
 module _ (s : State) (e : Event) (t u : Stepped) (t1 : Demand1At s e t) (u1 : Demand1At s e u) where
   same_number : t.number ≡ u.number
-  same_number = ⊎_elim upto5 eight u1.no_other
+  same_number = ⊎_elim five (λ h. below (upto4 u.number (omega (arith, u1.no_other, eqb-false u.number 5 h)))) (known u.number 5)
     where
-      eight : u.number ≡ 8 → t.number ≡ u.number
-      eight h = t1.eight.1 (u1.eight.0 h) ∙ sym h
-
       five : u.number ≡ 5 → t.number ≡ u.number
       five h = t1.five.1 (u1.five.0 h) ∙ sym h
 
@@ -49,9 +46,6 @@ module _ (s : State) (e : Event) (t u : Stepped) (t1 : Demand1At s e t) (u1 : De
       below (is_2 h) = t1.two.1 (u1.two.0 h) ∙ sym h
       below (is_3 h) = t1.three.1 (u1.three.0 h) ∙ sym h
       below (is_4 h) = t1.four.1 (u1.four.0 h) ∙ sym h
-
-      upto5 : u.number ≤ 5 → t.number ≡ u.number
-      upto5 l = ⊎_elim five (λ h. below (upto4 u.number (omega (arith, l, eqb-false u.number 5 h)))) (known u.number 5)
 
 -- what is left of an answer, its number known
 abbrev Rest : Stepped → Stepped → Type 0
@@ -93,6 +87,6 @@ determined s e t u t1 t2 u1 u2 =
     let n = same_number s e t u t1 u1 in
     let p = ⊎_elim
     (λ z. answered s e t u t2 u2 (n ∙ z) z)
-    (λ z. both t u _ _ (t1.refused (λ h. eqb-false u.number 0 z (sym n ∙ h))) (u1.refused (eqb-false u.number 0 z)))
+    (λ z. both t u 0 s (t1.refused (λ h. eqb-false u.number 0 z (sym n ∙ h))) (u1.refused (eqb-false u.number 0 z)))
     (known u.number 0) in
     same_stepped t u n p.0 p.1

@@ -27,13 +27,13 @@ use Rattle.recorder.specs.Steps.{state_of, entries_in, decided_of, applied_to, s
 use Rattle.machine.specs.declared.Event.{Event}
 use Rattle.machine.specs.declared.Event.TheVariants.{Retired, Trap, TrapReturn, Access, Sctrclr, Host}
 use Rattle.recorder.specs.declared.State.{State}
-use Rattle.demands.specs.States.{depth, Free, Traps, Returns, LargeCause, Impossible, wrptr_to, mode_to, frozen_to}
+use Rattle.demands.specs.States.{depth, Free, Traps, Returns, Impossible, wrptr_to, mode_to, frozen_to}
 use Rattle.demands.specs.Registers.{physical}
 use Rattle.demands.specs.Transfers.{record_of, mode_after, without_v, with_record, with_pop, with_swap, with_freeze, with_move, one_up, one_down, Qualifies, Pops, Swaps, trap_type, cycles_of, MISP, entry_of, counted}
 use Rattle.demands.proofs.Decides.{holds}
 use Rattle.demands.proofs.Free.{free}
 use Rattle.demands.proofs.Outcomes.{outcome_in, Says, says}
-use Rattle.demands.proofs.Tests.{causes, traps, returns, depth_is, depth_ge, physical_is, side_is}
+use Rattle.demands.proofs.Tests.{traps, returns, depth_is, depth_ge, physical_is, side_is}
 use Rattle.transfers.specs.Counts.{tallied}
 use Rattle.demands.specs.Transfers.Pops.{type_13}
 use Rattle.demands.specs.Transfers.Swaps.{type_12}
@@ -209,14 +209,13 @@ retired_steps s w f =
     rw ((free r).to f, ← stays r (entry_at (entries_in s) (Done.outcome_focus r.buffer o)) (entry_for w.pc w.target w.mispredicted (type_in r w)) (rasemu_of r r.mode r.mode) w.cycles o)
     (does s (Retired w) f w.pc w.target w.mispredicted refl (type_in r w) (word_small (transfer_of r.constants.zc w.word) w.taken) refl o (says r (Retired w)))
 
-trap_steps : (s : State) (t : TrapTo) → Free s.registers → t.cause < 64 → Traps s.registers.mode t.mode → Steps s (Trap t)
+trap_steps : (s : State) (t : TrapTo) → Free s.registers → Traps s.registers.mode t.mode → Steps s (Trap t)
 unfolding step_of applied_to decided_of decide_of event_of focus_of trap_of taken_trap crossed_of crossing outcome_in
-trap_steps s t f c p =
+trap_steps s t f p =
     let r = s.registers in
-    let h = (causes t.cause).to c in
     let g = (traps r.mode t.mode).to p in
-    rw ((free r).to f, h, g, side_is r r.mode t.epc, side_is r t.mode t.handler)
-    (crosses s (Trap t) f _ _ false refl (trap_type t.interrupt) (trap_small t.interrupt) refl (λ x. x) (trap_outcome r t) (rw (h, g) at (says r (Trap t))))
+    rw ((free r).to f, g, side_is r r.mode t.epc, side_is r t.mode t.handler)
+    (crosses s (Trap t) f _ _ false refl (trap_type t.interrupt) (trap_small t.interrupt) refl (λ x. x) (trap_outcome r t) (rw g at (says r (Trap t))))
 
 return_steps : (s : State) (t : ReturnTo) → Free s.registers → Returns s.registers.mode t.mode → Steps s (TrapReturn t)
 unfolding step_of applied_to decided_of decide_of event_of focus_of return_of taken_return crossed_of crossing outcome_in
@@ -227,10 +226,10 @@ return_steps s t f p =
     (crosses s (TrapReturn t) f _ _ false refl 3 (omega arith) refl (λ x. x) (return_outcome r t.mode) (rw g at (says r (TrapReturn t))))
 
 -- what is done with an event that is not refused
-pub steps : (s : State) (e : Event) → IsTransfer e → Free s.registers → (LargeCause e → ⊥) → (Impossible s.registers e → ⊥) → Steps s e
-steps s (Retired w) k f l i = retired_steps s w f
-steps s (Trap t) k f l i = trap_steps s t f (holds (causes t.cause) (λ n. l (omega (arith, n)))) (holds (traps s.registers.mode t.mode) i)
-steps s (TrapReturn t) k f l i = return_steps s t f (holds (returns s.registers.mode t.mode) i)
-steps s (Access a) k f l i = absurd k
-steps s Sctrclr k f l i = absurd k
-steps s (Host h) k f l i = absurd k
+pub steps : (s : State) (e : Event) → IsTransfer e → Free s.registers → (Impossible s.registers e → ⊥) → Steps s e
+steps s (Retired w) k f i = retired_steps s w f
+steps s (Trap t) k f i = trap_steps s t f (holds (traps s.registers.mode t.mode) i)
+steps s (TrapReturn t) k f i = return_steps s t f (holds (returns s.registers.mode t.mode) i)
+steps s (Access a) k f i = absurd k
+steps s Sctrclr k f i = absurd k
+steps s (Host h) k f i = absurd k

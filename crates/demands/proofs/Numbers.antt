@@ -1,8 +1,8 @@
 -- The definition `step_of` meets demand 1. Assumes nothing.
-use Prim.Native.Nat.{ℕ, zero, suc, ◌≤◌, ◌<◌}
+use Prim.Native.Nat.{ℕ, zero, suc, ◌≤◌}
 use mathlib.Core.Path.{◌≡◌, refl, sym, ap, ◌∙◌}
 use mathlib.Core.Bool.{Bool, true, false}
-use mathlib.Core.Logic.{◌⊎◌, inl, inr, ⊎_elim, ◌↔◌}
+use mathlib.Core.Logic.{◌⊎◌, ⊎_elim, ◌↔◌}
 use native.Mathlib.Omega.{arith}
 use borrow.Author.Tests.{eqb-false}
 use Rattle.bits.specs.Choice.{if◌then◌else◌}
@@ -13,14 +13,14 @@ use Rattle.machine.specs.declared.Registers.{Registers}
 use Rattle.machine.specs.declared.Entry.{Entry}
 use Rattle.machine.specs.declared.Decision.{Decision}
 use Rattle.machine.specs.declared.Verdict.{Verdict}
-use Rattle.machine.specs.declared.Verdict.TheVariants.{ChangeNotPossible, BadState, CauseTooLarge}
+use Rattle.machine.specs.declared.Verdict.TheVariants.{ChangeNotPossible, BadState}
 use Rattle.csr.specs.Numbers.{register_of}
 use Rattle.csr.specs.Steps.{facts_of, sctrclr_facts}
 use Rattle.csr.proofs.Refusals.{refusals}
 use Rattle.access.specs.Accesses.{access_of, sctrclr_of, host_of}
 use Rattle.access.specs.Laws.{Unchanged}
 use Rattle.access.proofs.Laws.{laws}
-use Rattle.qualifying.specs.Changes.{possible_trap, possible_return, possible_cause}
+use Rattle.qualifying.specs.Changes.{possible_trap, possible_return}
 use Rattle.transfers.specs.Transfers.{done_of, retired_of, taken_trap, trap_of, taken_return, return_of, crossed_of}
 use Rattle.machine.specs.declared.Outcome.{Outcome}
 use Rattle.machine.specs.declared.Outcome.TheVariants.{Nothing, Record, Pop, Swap, Freeze}
@@ -32,21 +32,20 @@ use Rattle.recorder.specs.Steps.{decided_of, applied_to, step_of}
 use Rattle.machine.specs.declared.Event.{Event}
 use Rattle.machine.specs.declared.Event.TheVariants.{Retired, Trap, TrapReturn, Access, Sctrclr, Host}
 use Rattle.recorder.specs.declared.State.{State}
-use Rattle.demands.specs.States.{Free, LargeCause, Impossible}
-use Rattle.demands.specs.Demands.{NotRefused, Four, Eight, Demand1}
+use Rattle.demands.specs.States.{Free, Impossible}
+use Rattle.demands.specs.Demands.{NotRefused, Demand1}
 use Rattle.demands.proofs.Decides.{Decides, no, negated}
 use Rattle.demands.proofs.Free.{free}
 use Rattle.demands.proofs.Steps.{step_number, step_numbers}
-use Rattle.demands.proofs.Tests.{causes, traps, returns}
+use Rattle.demands.proofs.Tests.{traps, returns}
 
 -- which line of the table a decision is on
 data Line (r : Registers) (e : Event) (d : Decision) : Type 0 where
   bad : (Free r → ⊥) → d ≡ refused r BadState → Line r e d
-  large : Free r → LargeCause e → step_number r e ≡ 0 → d ≡ refused r CauseTooLarge → Line r e d
-  impossible : Free r → (LargeCause e → ⊥) → Impossible r e → step_number r e ≡ 0 → d ≡ refused r ChangeNotPossible → Line r e d
-  step : Free r → (LargeCause e → ⊥) → (Impossible r e → ⊥) → (step_number r e ≡ 0 → ⊥) → step_number r e ≤ 3
+  impossible : Free r → Impossible r e → step_number r e ≡ 0 → d ≡ refused r ChangeNotPossible → Line r e d
+  step : Free r → (Impossible r e → ⊥) → (step_number r e ≡ 0 → ⊥) → step_number r e ≤ 3
       → d.number ≡ step_number r e → Unchanged r d → Line r e d
-  answered : Free r → (LargeCause e → ⊥) → (Impossible r e → ⊥) → step_number r e ≡ 0 → d.number ≡ 0 → Line r e d
+  answered : Free r → (Impossible r e → ⊥) → step_number r e ≡ 0 → d.number ≡ 0 → Line r e d
 
 -- an outcome done is answered
 done_number : (r : Registers) (old x : Entry) (ra : Bool) (o : Outcome) → (done_of r old x ra o).number ≡ 0
@@ -58,39 +57,33 @@ done_number r old x ra Swap = refl
 done_number r old x ra Freeze = refl
 
 -- a change of mode, by whether it is possible
-changed : (r : Registers) (e : Event) (d : Decision) (possible : Bool) {A : Type 0} → Free r → (LargeCause e → ⊥) → d.number ≡ 0
+changed : (r : Registers) (e : Event) (d : Decision) (possible : Bool) {A : Type 0} → Free r → d.number ≡ 0
     → (Impossible r e → A → ⊥) → ((A → ⊥) → Impossible r e) → Decides A possible → step_number r e ≡ 0
     → Line r e (if possible then d else refused r ChangeNotPossible)
-changed r e d true f c n p q t z = answered f c (λ i. p i (t.from refl)) z n
-changed r e d false f c n p q t z = impossible f c (q (no t refl)) z refl
+changed r e d true f n p q t z = answered f (λ i. p i (t.from refl)) z n
+changed r e d false f n p q t z = impossible f (q (no t refl)) z refl
 
 -- an access or SCTRCLR
-stepped : (r : Registers) (e : Event) (d : Decision) → Free r → (LargeCause e → ⊥) → (Impossible r e → ⊥) → step_number r e ≤ 3
+stepped : (r : Registers) (e : Event) (d : Decision) → Free r → (Impossible r e → ⊥) → step_number r e ≤ 3
     → d.number ≡ step_number r e → ((d.number ≡ 0 → ⊥) → Unchanged r d) → Line r e d
-stepped r e d f c i l n u =
-    ⊎_elim (λ z. answered f c i z (n ∙ z))
-    (λ z. step f c i (eqb-false _ _ z) l n (u (λ h. eqb-false _ _ z (sym n ∙ h))))
+stepped r e d f i l n u =
+    ⊎_elim (λ z. answered f i z (n ∙ z))
+    (λ z. step f i (eqb-false _ _ z) l n (u (λ h. eqb-false _ _ z (sym n ∙ h))))
     (known (step_number r e) 0)
 
 event_line : (r : Registers) (old : Entry) (e : Event) → Free r → Line r e (event_of r old e)
 unfolding event_of retired_of crossed_of trap_of taken_trap return_of taken_return host_of
-event_line r old (Retired w) f = answered f (λ c. c) (λ i. i) refl (done_number _ old _ _ _)
-event_line r old (Trap x) f = go (possible_cause x.cause) (causes x.cause)
-  where
-    go : (b : Bool) → Decides (x.cause < 64) b
-        → Line r (Trap x) (if b then (if possible_trap r.mode x.mode then taken_trap r old x else refused r ChangeNotPossible) else refused r CauseTooLarge)
-    go true d =
-        changed r (Trap x) (taken_trap r old x) _ f (λ c. omega (arith, d.from refl, c)) (done_number _ old _ _ _)
-        (λ i p. i p) (λ i. i) (traps r.mode x.mode) refl
-    go false d = large f (omega (arith, no d refl)) refl refl
+event_line r old (Retired w) f = answered f (λ i. i) refl (done_number _ old _ _ _)
+event_line r old (Trap x) f =
+    changed r (Trap x) (taken_trap r old x) _ f (done_number _ old _ _ _) (λ i p. i p) (λ i. i) (traps r.mode x.mode) refl
 event_line r old (TrapReturn x) f =
-    changed r (TrapReturn x) (taken_return r old x) _ f (λ c. c) (done_number _ old _ _ _) (λ i p. i p) (λ i. i) (returns r.mode x.mode) refl
+    changed r (TrapReturn x) (taken_return r old x) _ f (done_number _ old _ _ _) (λ i p. i p) (λ i. i) (returns r.mode x.mode) refl
 event_line r old (Access a) f =
-    stepped r (Access a) (access_of r old a) f (λ c. c) (λ i. i) (refusals r (facts_of r (register_of a.number))).no_other
+    stepped r (Access a) (access_of r old a) f (λ i. i) (refusals r (facts_of r (register_of a.number))).no_other
     (laws.access_number r old a) (laws.refused_access r old a)
 event_line r old Sctrclr f =
-    stepped r Sctrclr (sctrclr_of r) f (λ c. c) (λ i. i) (refusals r sctrclr_facts).no_other (laws.clear_number r) (laws.refused_clear r)
-event_line r old (Host h) f = answered f (λ c. c) (λ i. i) refl refl
+    stepped r Sctrclr (sctrclr_of r) f (λ i. i) (refusals r sctrclr_facts).no_other (laws.clear_number r) (laws.refused_clear r)
+event_line r old (Host h) f = answered f (λ i. i) refl refl
 
 line : (r : Registers) (old : Entry) (e : Event) → Line r e (decide_of r old e)
 unfolding decide_of
@@ -111,10 +104,9 @@ unchanged r d v p = rw p (refl, refl, refl)
 module _ (r : Registers) (e : Event) (d : Decision) where
   zero_to : Line r e d → d.number ≡ 0 → NotRefused r e
   zero_to (bad g p) h = absurd (omega (arith, number_is r d BadState p, h))
-  zero_to (large g c z p) h = absurd (omega (arith, number_is r d CauseTooLarge p, h))
-  zero_to (impossible g c i z p) h = absurd (omega (arith, number_is r d ChangeNotPossible p, h))
-  zero_to (step g c i z l n u) h = absurd (z (sym n ∙ h))
-  zero_to (answered g c i z n) h =
+  zero_to (impossible g i z p) h = absurd (omega (arith, number_is r d ChangeNotPossible p, h))
+  zero_to (step g i z l n u) h = absurd (z (sym n ∙ h))
+  zero_to (answered g i z n) h =
       let k = step_numbers r e in
       record {
         free = g;
@@ -122,14 +114,12 @@ module _ (r : Registers) (e : Event) (d : Decision) where
         not_virtual = (λ a. omega (arith, z, k.is_2.1 a));
         found = (λ a. omega (arith, z, k.is_3.1 a));
         possible = i;
-        plausible = c;
       }
 
   zero_from : Line r e d → NotRefused r e → d.number ≡ 0
   zero_from (bad g p) a = absurd (g a.free)
-  zero_from (large g c z p) a = absurd (a.plausible c)
-  zero_from (impossible g c i z p) a = absurd (a.possible i)
-  zero_from (step g c i z l n u) a = absurd (one_of (step_number r e) refl l)
+  zero_from (impossible g i z p) a = absurd (a.possible i)
+  zero_from (step g i z l n u) a = absurd (one_of (step_number r e) refl l)
     where
       one_of : (k : ℕ) → step_number r e ≡ k → k ≤ 3 → ⊥
       one_of zero h m = z h
@@ -137,21 +127,19 @@ module _ (r : Registers) (e : Event) (d : Decision) where
       one_of (suc (suc zero)) h m = a.not_virtual ((step_numbers r e).is_2.0 h)
       one_of (suc (suc (suc zero))) h m = a.found ((step_numbers r e).is_3.0 h)
       one_of (suc (suc (suc (suc k)))) h m = omega arith
-  zero_from (answered g c i z n) a = n
+  zero_from (answered g i z n) a = n
 
   steps_to : Line r e d → (n : ℕ) → 1 ≤ n → n ≤ 3 → d.number ≡ n → Free r × (step_number r e ≡ n)
   steps_to (bad g p) n k l h = absurd (omega (arith, number_is r d BadState p, h, l))
-  steps_to (large g c z p) n k l h = absurd (omega (arith, number_is r d CauseTooLarge p, h, l))
-  steps_to (impossible g c i z p) n k l h = absurd (omega (arith, number_is r d ChangeNotPossible p, h, l))
-  steps_to (step g c i z m q u) n k l h = (g, sym q ∙ h)
-  steps_to (answered g c i z q) n k l h = absurd (omega (arith, q, h, k))
+  steps_to (impossible g i z p) n k l h = absurd (omega (arith, number_is r d ChangeNotPossible p, h, l))
+  steps_to (step g i z m q u) n k l h = (g, sym q ∙ h)
+  steps_to (answered g i z q) n k l h = absurd (omega (arith, q, h, k))
 
   steps_from : Line r e d → (n : ℕ) → 1 ≤ n → n ≤ 3 → Free r × (step_number r e ≡ n) → d.number ≡ n
   steps_from (bad g p) n k l h = absurd (g h.0)
-  steps_from (large g c z p) n k l h = absurd (omega (arith, z, h.1, k))
-  steps_from (impossible g c i z p) n k l h = absurd (omega (arith, z, h.1, k))
-  steps_from (step g c i z m q u) n k l h = q ∙ h.1
-  steps_from (answered g c i z q) n k l h = absurd (omega (arith, z, h.1, k))
+  steps_from (impossible g i z p) n k l h = absurd (omega (arith, z, h.1, k))
+  steps_from (step g i z m q u) n k l h = q ∙ h.1
+  steps_from (answered g i z q) n k l h = absurd (omega (arith, z, h.1, k))
 
   -- 1, 2 and 3 alike: the sentence that gives the number of a step
   step_line : Line r e d → (n : ℕ) → 1 ≤ n → n ≤ 3 → {A : Type 0} → step_number r e ≡ n ↔ A → d.number ≡ n ↔ (Free r × A)
@@ -160,40 +148,29 @@ module _ (r : Registers) (e : Event) (d : Decision) where
     (λ a. steps_from t n k l (a.0, p.1 a.1)),
   )
 
-  four : Line r e d → d.number ≡ 4 ↔ Four r e
+  four : Line r e d → d.number ≡ 4 ↔ (Free r × Impossible r e)
   four (bad g p) = ((λ h. absurd (omega (arith, number_is r d BadState p, h))), (λ a. absurd (g a.0)))
-  four (large g c z p) = ((λ h. absurd (omega (arith, number_is r d CauseTooLarge p, h))), (λ a. absurd (a.2 c)))
-  four (impossible g c i z p) = ((λ h. (g, i, c)), (λ a. number_is r d ChangeNotPossible p))
-  four (step g c i z l n u) = ((λ h. absurd (omega (arith, n, l, h))), (λ a. absurd (i a.1)))
-  four (answered g c i z n) = ((λ h. absurd (omega (arith, n, h))), (λ a. absurd (i a.1)))
+  four (impossible g i z p) = ((λ h. (g, i)), (λ a. number_is r d ChangeNotPossible p))
+  four (step g i z l n u) = ((λ h. absurd (omega (arith, n, l, h))), (λ a. absurd (i a.1)))
+  four (answered g i z n) = ((λ h. absurd (omega (arith, n, h))), (λ a. absurd (i a.1)))
 
   five : Line r e d → d.number ≡ 5 ↔ (Free r → ⊥)
   five (bad g p) = ((λ h f. g f), (λ a. number_is r d BadState p))
-  five (large g c z p) = ((λ h f. omega (arith, number_is r d CauseTooLarge p, h)), (λ a. absurd (a g)))
-  five (impossible g c i z p) = ((λ h f. omega (arith, number_is r d ChangeNotPossible p, h)), (λ a. absurd (a g)))
-  five (step g c i z l n u) = ((λ h f. omega (arith, n, l, h)), (λ a. absurd (a g)))
-  five (answered g c i z n) = ((λ h f. omega (arith, n, h)), (λ a. absurd (a g)))
+  five (impossible g i z p) = ((λ h f. omega (arith, number_is r d ChangeNotPossible p, h)), (λ a. absurd (a g)))
+  five (step g i z l n u) = ((λ h f. omega (arith, n, l, h)), (λ a. absurd (a g)))
+  five (answered g i z n) = ((λ h f. omega (arith, n, h)), (λ a. absurd (a g)))
 
-  eight : Line r e d → d.number ≡ 8 ↔ Eight r e
-  eight (bad g p) = ((λ h. absurd (omega (arith, number_is r d BadState p, h))), (λ a. absurd (g a.0)))
-  eight (large g c z p) = ((λ h. (g, c)), (λ a. number_is r d CauseTooLarge p))
-  eight (impossible g c i z p) = ((λ h. absurd (omega (arith, number_is r d ChangeNotPossible p, h))), (λ a. absurd (c a.1)))
-  eight (step g c i z l n u) = ((λ h. absurd (omega (arith, n, l, h))), (λ a. absurd (c a.1)))
-  eight (answered g c i z n) = ((λ h. absurd (omega (arith, n, h))), (λ a. absurd (c a.1)))
-
-  no_other : Line r e d → (d.number ≤ 5) ⊎ (d.number ≡ 8)
-  no_other (bad g p) = inl (omega (arith, number_is r d BadState p))
-  no_other (large g c z p) = inr (number_is r d CauseTooLarge p)
-  no_other (impossible g c i z p) = inl (omega (arith, number_is r d ChangeNotPossible p))
-  no_other (step g c i z l n u) = inl (omega (arith, n, l))
-  no_other (answered g c i z n) = inl (omega (arith, n))
+  at_most : Line r e d → d.number ≤ 5
+  at_most (bad g p) = omega (arith, number_is r d BadState p)
+  at_most (impossible g i z p) = omega (arith, number_is r d ChangeNotPossible p)
+  at_most (step g i z l n u) = omega (arith, n, l)
+  at_most (answered g i z n) = omega (arith, n)
 
   refusal : Line r e d → (d.number ≡ 0 → ⊥) → Unchanged r d
   refusal (bad g p) h = unchanged r d BadState p
-  refusal (large g c z p) h = unchanged r d CauseTooLarge p
-  refusal (impossible g c i z p) h = unchanged r d ChangeNotPossible p
-  refusal (step g c i z l n u) h = u
-  refusal (answered g c i z n) h = absurd (h n)
+  refusal (impossible g i z p) h = unchanged r d ChangeNotPossible p
+  refusal (step g i z l n u) h = u
+  refusal (answered g i z n) h = absurd (h n)
 
 -- registers free of number 5 stay so
 good_event : (r : Registers) (old : Entry) (e : Event) → good_of r ≡ true → good_of (event_of r old e).registers ≡ true
@@ -227,8 +204,7 @@ demand_1 s e =
       three = step_line r e d l 3 (omega arith) (omega arith) k.is_3;
       four = four r e d l;
       five = five r e d l;
-      eight = eight r e d l;
-      no_other = no_other r e d l;
+      no_other = at_most r e d l;
       refused = (λ h. unchanged_state s e (refusal r e d l h));
       stays_free = (λ f. (free _).from (good_decided r _ e ((free r).to f)));
     }

@@ -3,7 +3,6 @@ use Prim.Native.Nat.{ℕ}
 use mathlib.Core.Path.{◌≡◌, refl, sym, ap, subst, ◌∙◌}
 use mathlib.Core.Bool.{Bool, true, false, not, ◌&&◌}
 use mathlib.Core.Logic.{◌⊎◌, inl, inr, ⊎_elim}
-use native.Mathlib.Omega.{arith}
 use lib.Dec.{eqb}
 use borrow.Author.Tests.{eqb-true}
 use Rattle.bits.specs.Choice.{if◌then◌else◌}
@@ -17,7 +16,7 @@ use Rattle.machine.specs.declared.Registers.{Registers}
 use Rattle.machine.specs.declared.RetiredWord.{RetiredWord}
 use Rattle.machine.specs.declared.TrapTo.{TrapTo}
 use Rattle.machine.specs.declared.ReturnTo.{ReturnTo}
-use Rattle.qualifying.specs.Changes.{possible_trap, possible_return, possible_cause}
+use Rattle.qualifying.specs.Changes.{possible_trap, possible_return}
 use Rattle.qualifying.specs.Outcomes.{stack_outcome, rasemu_of, on_outcome, live_of, live_outcome, retired_outcome, trap_by, trap_outcome, return_by, return_outcome}
 use Rattle.machine.specs.declared.Outcome.{Outcome}
 use Rattle.machine.specs.declared.Outcome.TheVariants.{Nothing, Record, Pop, Swap, Freeze}
@@ -30,12 +29,12 @@ use Rattle.demands.specs.Transfers.Qualifies.{retired, on_to_on, off_to_on, on_t
 use Rattle.demands.specs.Transfers.Pops.{type_13}
 use Rattle.demands.specs.Transfers.Swaps.{type_12}
 use Rattle.demands.proofs.Decides.{no, fails}
-use Rattle.demands.proofs.Tests.{mode, rasemu, governing_is, admitted, returns, allowed_of, allows_word, allows_trap, allows_return, external_set, external_is, freezes_set, freezes}
+use Rattle.demands.proofs.Tests.{mode, rasemu, governing_is, traps, returns, allowed_of, allows_word, allows_trap, allows_return, external_set, external_is, freezes_set, freezes}
 
 -- what comes of an event, from registers free of number 5
 unfoldable pub outcome_in : Registers → Event → Outcome
 outcome_in r (Retired w) = retired_outcome r (type_in r w)
-outcome_in r (Trap t) = if possible_cause t.cause && possible_trap r.mode t.mode then trap_outcome r t else Nothing
+outcome_in r (Trap t) = if possible_trap r.mode t.mode then trap_outcome r t else Nothing
 outcome_in r (TrapReturn t) = if possible_return r.mode t.mode then return_outcome r t.mode else Nothing
 outcome_in r (Access a) = Nothing
 outcome_in r Sctrclr = Nothing
@@ -59,13 +58,13 @@ qualifies_outcome {r = r} (retired {w = w} f m o a) =
     rw ((mode r r.mode).on o, (rasemu r (Retired w)).off m, allowed_of r (Retired w) a, f)
 qualifies_outcome {r = r} (on_to_on {t = t} p m o x a) =
     let to = t.mode in
-    rw ((admitted r t).to (p.cause, p.possible), passed r t p, (rasemu r (Trap t)).off m, (mode r to).on x, allowed_of r (Trap t) a, p.frozen_not)
+    rw ((traps r.mode to).to p.possible, passed r t p, (rasemu r (Trap t)).off m, (mode r to).on x, allowed_of r (Trap t) a, p.frozen_not)
 qualifies_outcome {r = r} (off_to_on {t = t} p m o x a) =
     let to = t.mode in
-    rw ((admitted r t).to (p.cause, p.possible), passed r t p, (rasemu r (Trap t)).off m, (mode r to).on x, allowed_of r (Trap t) a, p.frozen_not)
+    rw ((traps r.mode to).to p.possible, passed r t p, (rasemu r (Trap t)).off m, (mode r to).on x, allowed_of r (Trap t) a, p.frozen_not)
 qualifies_outcome {r = r} (on_to_off {t = t} p m o x y) =
     let to = t.mode in
-    rw ((admitted r t).to (p.cause, p.possible), passed r t p, (rasemu r (Trap t)).off m, (mode r to).off x, (mode r r.mode).on o, external_set y, p.frozen_not)
+    rw ((traps r.mode to).to p.possible, passed r t p, (rasemu r (Trap t)).off m, (mode r to).off x, (mode r r.mode).on o, external_set y, p.frozen_not)
 qualifies_outcome {r = r} (return {t = t} p f m o a) =
     let to = t.mode in
     rw ((returns r.mode to).to p, (rasemu r (TrapReturn t)).off m, (mode r r.mode).on o, allowed_of r (TrapReturn t) a, f)
@@ -84,8 +83,8 @@ swaps_outcome {r = r} (type_12 {w = w} f m o c) =
 
 pub freezes_outcome : {r : Registers} {e : Event} → Freezes r e → outcome_in r e ≡ Freeze
 unfolding outcome_in trap_outcome trap_by
-freezes_outcome {r = r} (BPFRZ {t = t} p i c h) = rw ((admitted r t).to (omega (arith, c), p), freezes_set (BPFRZ {t = t} p i c h))
-freezes_outcome {r = r} (LCOFIFRZ {t = t} p i c h) = rw ((admitted r t).to (omega (arith, c), p), freezes_set (LCOFIFRZ {t = t} p i c h))
+freezes_outcome {r = r} (BPFRZ {t = t} p i c h) = rw ((traps r.mode t.mode).to p, freezes_set (BPFRZ {t = t} p i c h))
+freezes_outcome {r = r} (LCOFIFRZ {t = t} p i c h) = rw ((traps r.mode t.mode).to p, freezes_set (LCOFIFRZ {t = t} p i c h))
 
 -- and each outcome comes of its relation
 emulated : (r : Registers) (w : RetiredWord) → r.buffer.frozen ≡ false → RASEMU r (Retired w) ≡ 1 → On r r.mode
@@ -131,11 +130,10 @@ retired_says r w = go (on_of r m) refl r.buffer.frozen refl (rasemu_of r m m) re
     go true o true f ra a inh i = tt
     go false o fr f ra a inh i = tt
 
-trap_says : (r : Registers) (t : TrapTo)
-    → Says r (Trap t) (if possible_cause t.cause && possible_trap r.mode t.mode then trap_outcome r t else Nothing)
+trap_says : (r : Registers) (t : TrapTo) → Says r (Trap t) (if possible_trap r.mode t.mode then trap_outcome r t else Nothing)
 unfolding trap_outcome trap_by
 trap_says r t =
-    go (possible_cause t.cause && possible_trap m to) refl (freezes_of r t) refl r.buffer.frozen refl (rasemu_of r m to) refl
+    go (possible_trap m to) refl (freezes_of r t) refl r.buffer.frozen refl (rasemu_of r m to) refl
     (on_of r m) refl (on_of r to) refl (inhibited_of r c (trap_type t.interrupt)) refl (external_of r m to) refl
   where
     e : Event
@@ -150,17 +148,17 @@ trap_says r t =
     c : ControlRegister
     c = governing_of m to
 
-    passes : (possible_cause t.cause && possible_trap m to) ≡ true → freezes_of r t ≡ false → r.buffer.frozen ≡ false → Passes r t
+    passes : possible_trap m to ≡ true → freezes_of r t ≡ false → r.buffer.frozen ≡ false → Passes r t
     passes p z f =
-        let q = (admitted r t).from p in
-        record { cause = q.0; possible = q.1; freezes_not = no (freezes r t q.1) z; frozen_not = f }
+        let q = (traps m to).from p in
+        record { possible = q; freezes_not = no (freezes r t q) z; frozen_not = f }
 
-    go : (ps : Bool) → (possible_cause t.cause && possible_trap m to) ≡ ps → (fz : Bool) → freezes_of r t ≡ fz → (fr : Bool) → r.buffer.frozen ≡ fr
+    go : (ps : Bool) → possible_trap m to ≡ ps → (fz : Bool) → freezes_of r t ≡ fz → (fr : Bool) → r.buffer.frozen ≡ fr
         → (ra : Bool) → rasemu_of r m to ≡ ra → (so : Bool) → on_of r m ≡ so → (ta : Bool) → on_of r to ≡ ta
         → (inh : Bool) → inhibited_of r c (trap_type t.interrupt) ≡ inh → (ext : Bool) → external_of r m to ≡ ext
         → Says r (Trap t) (if ps then trap_by fz fr ra so ta inh ext else Nothing)
     go false p fz z fr f ra a so o ta x inh i ext y = tt
-    go true p true z fr f ra a so o ta x inh i ext y = (freezes r t ((admitted r t).from p).1).from z
+    go true p true z fr f ra a so o ta x inh i ext y = (freezes r t ((traps m to).from p)).from z
     go true p false z true f ra a so o ta x inh i ext y = tt
     go true p false z false f true a so o ta x inh i ext y = tt
     go true p false z false f false a so o true x true i ext y = tt
@@ -172,7 +170,7 @@ trap_says r t =
         (allows_trap r (other_fields r e) t.interrupt (rw (governing_is r e) at i))
     go true p false z false f false a true o false x inh i true y =
         on_to_off (passes p z f) ((rasemu r e).is_off a) ((mode r m).is_on o) ((mode r to).is_off x)
-        (external_is r ((admitted r t).from p).1 y)
+        (external_is r ((traps m to).from p) y)
     go true p false z false f false a true o false x inh i false y = tt
     go true p false z false f false a false o false x inh i ext y = tt
 

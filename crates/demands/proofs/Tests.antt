@@ -7,7 +7,7 @@ use native.Mathlib.Nat.{mod-eq_of_lt, mod-add-mod}
 use native.Mathlib.Omega.{arith}
 use lib.Dec.{eqb, ltb}
 use lib.ListN.{length, get_or, get_or-eq_default}
-use borrow.Author.Tests.{eqb-true, ltb-true, ltb-false, lt-ltb, not-false}
+use borrow.Author.Tests.{eqb-true, ltb-true, ltb-false, not-false}
 use Rattle.bits.proofs.Cases.{passed}
 use Rattle.bits.specs.Choice.{if◌then◌else◌}
 use Rattle.bits.specs.Words.{bit_at}
@@ -28,14 +28,14 @@ use Rattle.machine.specs.declared.Mode.{Mode}
 use Rattle.machine.specs.declared.Mode.TheVariants.{U, S, M, VU, VS}
 use Rattle.machine.specs.declared.Registers.{Registers}
 use Rattle.machine.specs.declared.TrapTo.{TrapTo}
-use Rattle.qualifying.specs.Changes.{possible_trap, possible_return, possible_cause}
+use Rattle.qualifying.specs.Changes.{possible_trap, possible_return}
 use Rattle.qualifying.specs.Filters.{freezes_of, external_to_s, external_to_m, external_of, inhibit_bit, inhibited_of}
 use Rattle.qualifying.specs.Outcomes.{rasemu_of}
 use Rattle.transfers.specs.Records.{side_pc}
 use Rattle.demands.specs.States.{depths, depth, place, held, bit, IsSet, Traps, Returns}
 use Rattle.demands.specs.Registers.{physical}
 use Rattle.demands.specs.Transfers.{switch, control, mode_after, mode_v, other_fields, RASEMU, trap_type, Allows, External, Freezes, side_of}
-use Rattle.demands.proofs.Decides.{Decides, via, Tested, tested, pair}
+use Rattle.demands.proofs.Decides.{Decides, via, Tested, tested}
 
 -- a bit of a control register
 place_is : (b : ControlBit) → place_of b ≡ place b
@@ -161,14 +161,6 @@ of_trap m VU h = absurd (false≢true h)
 
 pub traps : (m to : Mode) → Decides (Traps m to) (possible_trap m to)
 traps m to = record { to = trap_of_lem; from = of_trap m to }
-
--- a trap's cause; and a trap that is not refused
-pub causes : (n : ℕ) → Decides (n < 64) (possible_cause n)
-causes n = record { to = lt-ltb n 64; from = ltb-true n 64 }
-
-pub admitted : (r : Registers) (t : TrapTo)
-    → Decides ((t.cause < 64) × Traps r.mode t.mode) (possible_cause t.cause && possible_trap r.mode t.mode)
-admitted r t = pair (possible_cause t.cause) (possible_trap r.mode t.mode) (causes t.cause) (traps r.mode t.mode)
 
 -- a return goes the way that a trap could have come
 to_return : {m to : Mode} → Traps to m → Returns m to

@@ -11,7 +11,7 @@ use Rattle.recorder.specs.Steps.{step_of}
 use Rattle.machine.specs.declared.Event.{Event}
 use Rattle.machine.specs.declared.Event.TheVariants.{Retired, Trap, TrapReturn, Access, Sctrclr, Host}
 use Rattle.recorder.specs.declared.State.{State}
-use Rattle.demands.specs.States.{depth, Free, LargeCause, Impossible}
+use Rattle.demands.specs.States.{depth, Free, Impossible}
 use Rattle.demands.specs.Transfers.{one_up, one_down, with_record, with_pop}
 use Rattle.demands.specs.Demands.{Demand1At, TransferAt}
 use Rattle.demands.proofs.Decides.{fails, or_not}
@@ -19,7 +19,7 @@ use Rattle.demands.proofs.Free.{free}
 use Rattle.demands.proofs.Numbers.{demand_1}
 use Rattle.demands.proofs.Outcomes.{outcome_in, Says, says, qualifies_outcome, pops_outcome, swaps_outcome, freezes_outcome}
 use Rattle.demands.proofs.Pointer.{up_moves, down_moves, up_is_not_down}
-use Rattle.demands.proofs.Tests.{causes, admitted, traps, returns, depth_ge}
+use Rattle.demands.proofs.Tests.{traps, returns, depth_ge}
 use Rattle.demands.proofs.Does.{IsTransfer, state_for, Steps, steps}
 
 -- the outcome of a value
@@ -47,29 +47,11 @@ value_le Pop = omega arith
 value_le Swap = omega arith
 value_le Freeze = omega arith
 
--- nothing comes of a cause that is too large
-large_nothing : (r : Registers) (e : Event) → LargeCause e → outcome_in r e ≡ Nothing
-unfolding outcome_in
-large_nothing r (Retired w) l = absurd l
-large_nothing r (Trap t) l = rw (fails (admitted r t) (λ a. omega (arith, a.0, l)))
-large_nothing r (TrapReturn t) l = absurd l
-large_nothing r (Access a) l = absurd l
-large_nothing r Sctrclr l = absurd l
-large_nothing r (Host h) l = absurd l
-
-large_or_not : (e : Event) → LargeCause e ⊎ (LargeCause e → ⊥)
-large_or_not (Retired w) = inr (λ l. l)
-large_or_not (Trap t) = ⊎_elim (λ b. inr (λ l. omega (arith, b, l))) (λ n. inl (omega (arith, n))) (or_not (causes t.cause))
-large_or_not (TrapReturn t) = inr (λ l. l)
-large_or_not (Access a) = inr (λ l. l)
-large_or_not Sctrclr = inr (λ l. l)
-large_or_not (Host h) = inr (λ l. l)
-
--- nor of an impossible change of mode
+-- nothing comes of an impossible change of mode
 impossible_nothing : (r : Registers) (e : Event) → Impossible r e → outcome_in r e ≡ Nothing
 unfolding outcome_in
 impossible_nothing r (Retired w) i = absurd i
-impossible_nothing r (Trap t) i = rw (fails (admitted r t) (λ a. i a.1))
+impossible_nothing r (Trap t) i = rw (fails (traps r.mode t.mode) i)
 impossible_nothing r (TrapReturn t) i = rw (fails (returns r.mode t.mode) i)
 impossible_nothing r (Access a) i = absurd i
 impossible_nothing r Sctrclr i = absurd i
@@ -189,17 +171,11 @@ transfers s e k = ⊎_elim good bad (or_not (free s.registers))
         refused_transfers s e q (d.refused p).0 (d.refused p).1 p
 
     good : Free s.registers → TransferAt s e (step_of s e)
-    good f = ⊎_elim large small (large_or_not e)
-      where
-        large : LargeCause e → TransferAt s e (step_of s e)
-        large l = refused 8 (omega arith) (d.eight.1 (f, l)) (λ q. large_nothing s.registers e l)
-
-        small : (LargeCause e → ⊥) → TransferAt s e (step_of s e)
-        small l =
-            ⊎_elim
-            (λ i. refused 4 (omega arith) (d.four.1 (f, i, l)) (λ q. impossible_nothing s.registers e i))
-            (λ i. answered_transfers s e f (steps s e k f l i))
-            (impossible_or_not s.registers e)
+    good f =
+        ⊎_elim
+        (λ i. refused 4 (omega arith) (d.four.1 (f, i)) (λ q. impossible_nothing s.registers e i))
+        (λ i. answered_transfers s e f (steps s e k f i))
+        (impossible_or_not s.registers e)
 
     bad : (Free s.registers → ⊥) → TransferAt s e (step_of s e)
     bad n = refused 5 (omega arith) (d.five.1 n) (λ f. absurd (n f))

@@ -1,5 +1,5 @@
 -- Demands 1 and 2 of any recorder at all, by the rules of States, Registers, Steps and Transfers alone; and that they leave no choice.
-use Rattle.std.specs.Prelude.{ℕ, ◌+◌, ◌≤◌, ◌<◌, ◌≡◌, Bool, ◌⊎◌, ◌↔◌}
+use Rattle.std.specs.Prelude.{ℕ, ◌+◌, ◌≤◌, ◌<◌, ◌≡◌, Bool, ◌↔◌}
 use Rattle.classifier.specs.Promise.{HasType, word_type}
 use Rattle.machine.specs.declared.Registers.{Registers}
 use Rattle.csr.specs.declared.Csr.{Csr}
@@ -12,7 +12,7 @@ use Rattle.machine.specs.declared.Event.{Event}
 use Rattle.machine.specs.declared.Event.TheVariants.{Retired, Trap, TrapReturn, Access, Sctrclr, Host}
 use Rattle.recorder.specs.declared.State.{State}
 use Rattle.recorder.specs.declared.Stepped.{Stepped}
-use Rattle.demands.specs.States.{depth, Free, LargeCause, Impossible, start}
+use Rattle.demands.specs.States.{depth, Free, Impossible, start}
 use Rattle.demands.specs.Registers.{Reaches, selected, Logical, word, reading, written, with_zeros, with_enables}
 use Rattle.demands.specs.Steps.{Illegal, Virtual, Missing}
 use Rattle.demands.specs.Transfers.{Freezes, Qualifies, Pops, Swaps, with_record, with_pop, with_swap, with_freeze, with_move}
@@ -25,27 +25,17 @@ pub record NotRefused (r : Registers) (e : Event) : Type 0 where
   pub not_virtual : Virtual r e → ⊥
   pub found : Missing r e → ⊥
   pub possible : Impossible r e → ⊥
-  pub plausible : LargeCause e → ⊥
-
--- the line of 8, a trap whose cause is 64 or more; and that of 4, a mode change that is not possible and, of a trap, its cause is
--- below 64
-abbrev pub Eight : Registers → Event → Type 0
-Eight r e = Free r × LargeCause e
-
-abbrev pub Four : Registers → Event → Type 0
-Four r e = Free r × Impossible r e × (LargeCause e → ⊥)
 
 -- demand 1 of the result t at a state and an event
 pub record Demand1At (s : State) (e : Event) (t : Stepped) : Type 0 where
-  -- each number exactly when its line says, 5 before all others and 8 before 4, and no number but these
+  -- each number exactly when its line says, 5 before all others, and no number but these
   pub zero : t.number ≡ 0 ↔ NotRefused s.registers e
   pub one : t.number ≡ 1 ↔ (Free s.registers × Illegal s.registers e)
   pub two : t.number ≡ 2 ↔ (Free s.registers × Virtual s.registers e)
   pub three : t.number ≡ 3 ↔ (Free s.registers × Missing s.registers e)
-  pub four : t.number ≡ 4 ↔ Four s.registers e
+  pub four : t.number ≡ 4 ↔ (Free s.registers × Impossible s.registers e)
   pub five : t.number ≡ 5 ↔ (Free s.registers → ⊥)
-  pub eight : t.number ≡ 8 ↔ Eight s.registers e
-  pub no_other : (t.number ≤ 5) ⊎ (t.number ≡ 8)
+  pub no_other : t.number ≤ 5
   -- refused means value 0 and the state unchanged
   pub refused : (t.number ≡ 0 → ⊥) → (t.value ≡ 0) × (t.state ≡ s)
   -- every answered event from a state free of 5 ends in one

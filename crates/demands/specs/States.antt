@@ -126,16 +126,7 @@ pub data Returns : Mode → Mode → Type 0 where
   VS-VS : Returns VS VS
   VS-VU : Returns VS VU
 
--- number 8: a trap whose cause is 64 or more, an interrupt or an exception
-abbrev pub LargeCause : Event → Type 0
-LargeCause (Trap t) = 64 ≤ t.cause
-LargeCause (TrapReturn t) = ⊥
-LargeCause (Retired w) = ⊥
-LargeCause (Access a) = ⊥
-LargeCause Sctrclr = ⊥
-LargeCause (Host h) = ⊥
-
--- a mode change that is not possible: number 4, where it isn't 8
+-- number 4: a mode change that is not possible
 abbrev pub Impossible : Registers → Event → Type 0
 Impossible r (Trap t) = Traps r.mode t.mode → ⊥
 Impossible r (TrapReturn t) = Returns r.mode t.mode → ⊥

@@ -1,6 +1,6 @@
 -- When a transfer qualifies (docs/RULES.md, Q), as relations: each constructor is a sentence of the papers, and no test comes before
 -- another; what counts in the cycle counter; and what a record, a pop, a swap and a freeze leave behind.
-use Rattle.std.specs.Prelude.{ℕ, zero, suc, ◌+◌, ◌-◌, ◌*◌, ◌/◌, ◌%◌, ◌<◌, min, ◌≡◌, Bool, true, false, ◌⊎◌, eqb}
+use Rattle.std.specs.Prelude.{ℕ, zero, suc, ◌+◌, ◌-◌, ◌*◌, ◌/◌, ◌%◌, min, ◌≡◌, Bool, true, false, ◌⊎◌, eqb}
 use Rattle.bits.specs.Choice.{if◌then◌else◌}
 use Rattle.classifier.specs.Promise.{word_type}
 use Rattle.machine.specs.declared.Entry.{Entry}
@@ -45,7 +45,7 @@ On r m = switch r m ≡ 1
 abbrev pub Off : Registers → Mode → Type 0
 Off r m = switch r m ≡ 0
 
--- the mode after an event that isn't refused: every such trap or return changes it, recorded or not
+-- the mode after an event that isn't refused: every possible trap or return changes it, recorded or not
 abbrev pub mode_after : Registers → Event → Mode
 mode_after r (Trap t) = t.mode
 mode_after r (TrapReturn t) = t.mode
@@ -123,9 +123,8 @@ pub data External (r : Registers) : Mode → Mode → Type 0 where
   VS-M : STE r → MTE r → External r VS M
   VU-M : VSTE r → STE r → MTE r → External r VU M
 
--- a possible trap that is recorded or not by the rules below: its cause is below 64, it does not freeze, and FROZEN is 0
+-- a possible trap that is recorded or not by the rules below: it does not freeze, and FROZEN is 0
 pub record Passes (r : Registers) (t : TrapTo) : Type 0 where
-  pub cause : t.cause < 64
   pub possible : Traps r.mode t.mode
   pub freezes_not : Freezes r (Trap t) → ⊥
   pub frozen_not : r.buffer.frozen ≡ false
@@ -187,8 +186,8 @@ counts r = if r.buffer.frozen then 0 else switch r r.mode
 abbrev pub counter : Registers → Event → ℕ
 counter r e = min (r.cycles.counter + counts r * cycles_of e) 0x7FFFFFF
 
--- any retired, trap or return event that isn't refused, from a mode that is on, with FROZEN 0 before it, while RASEMU governs it,
--- zeroes the counter, and the next ordinary record has CCV 0
+-- any event from a mode that is on, with FROZEN 0 before it, while RASEMU governs it, zeroes the counter, and the next ordinary
+-- record has CCV 0
 abbrev pub zeroes : Registers → Event → Bool
 zeroes r e = eqb (counts r * RASEMU r e) 1
 
@@ -196,7 +195,7 @@ zeroes r e = eqb (counts r * RASEMU r e) 1
 abbrev pub counted : Registers → Event → Registers
 counted r e = cycles_to (if zeroes r e then 0 else counter r e) (if zeroes r e then false else r.cycles.ccv) r
 
--- those of one that is: the counter restarts, and the next record has CCV 1, or 0 if RASEMU is 1
+-- those of one that is: the counter restarts, and the next record has CCV 1, but under RASEMU 0
 abbrev pub restarted : Registers → Event → Registers
 restarted r e = cycles_to 0 (eqb (RASEMU r e) 0) r
 

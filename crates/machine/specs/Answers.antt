@@ -4,7 +4,7 @@ use Rattle.std.specs.Prelude.{ℕ, Bool, true, false}
 use Rattle.machine.specs.declared.Registers.{Registers}
 use Rattle.machine.specs.declared.Entry.{Entry}
 use Rattle.machine.specs.declared.Verdict.{Verdict}
-use Rattle.machine.specs.declared.Verdict.TheVariants.{Accepted, IllegalInstruction, VirtualInstruction, NoSuchRegister, ChangeNotPossible, BadState, CauseTooLarge}
+use Rattle.machine.specs.declared.Verdict.TheVariants.{Accepted, IllegalInstruction, VirtualInstruction, NoSuchRegister, ChangeNotPossible, BadState}
 use Rattle.machine.specs.declared.Outcome.{Outcome}
 use Rattle.machine.specs.declared.Outcome.TheVariants.{Nothing, Record, Pop, Swap, Freeze}
 use Rattle.machine.specs.declared.Effect.TheVariants.{Keep, Put, ClearAll}
@@ -18,7 +18,6 @@ number_of VirtualInstruction = 2
 number_of NoSuchRegister = 3
 number_of ChangeNotPossible = 4
 number_of BadState = 5
-number_of CauseTooLarge = 8
 
 abbrev pub is_accepted : Verdict → Bool
 is_accepted Accepted = true
@@ -27,7 +26,6 @@ is_accepted VirtualInstruction = false
 is_accepted NoSuchRegister = false
 is_accepted ChangeNotPossible = false
 is_accepted BadState = false
-is_accepted CauseTooLarge = false
 
 -- the value of a retired word's, a trap's or a trap return's answer
 abbrev pub value_of : Outcome → ℕ
@@ -37,9 +35,9 @@ value_of Pop = 2
 value_of Swap = 3
 value_of Freeze = 4
 
--- one more than the largest number, 6 and 7 being numbers of runs alone; and how many values there are
+-- how many numbers and how many values there are
 abbrev pub numbers : ℕ
-numbers = 9
+numbers = 6
 
 abbrev pub values : ℕ
 values = 5

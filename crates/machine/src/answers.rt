@@ -15,7 +15,6 @@ pub fn number(v: Verdict) -> u64
         Verdict::NoSuchRegister => 3,
         Verdict::ChangeNotPossible => 4,
         Verdict::BadState => 5,
-        Verdict::CauseTooLarge => 8,
     }
 }
 
@@ -29,7 +28,6 @@ pub fn is_accepted(v: Verdict) -> bool
         Verdict::NoSuchRegister => false,
         Verdict::ChangeNotPossible => false,
         Verdict::BadState => false,
-        Verdict::CauseTooLarge => false,
     }
 }
 
@@ -46,12 +44,12 @@ pub fn value(o: Outcome) -> u64
     }
 }
 
-// One more than the largest number of an event, and how many values of outcomes there are.
-pub const NUMBERS: u64 = 9;
+// How many numbers there are, and how many values of outcomes.
+pub const NUMBERS: u64 = 6;
 
 pub const VALUES: u64 = 5;
 
-// The place of a number where numbers are counted; what is larger than all comes after the last.
+// The place of a number among the numbers; what is none of them comes after the last.
 pub fn number_index(number: u64) -> u64
     ensures { result ≡ min number numbers }
 {

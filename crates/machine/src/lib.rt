@@ -180,7 +180,6 @@ pub enum Verdict {
     NoSuchRegister,
     ChangeNotPossible,
     BadState,
-    CauseTooLarge,
 }
 
 // What comes of a retired word, a trap or a trap return.

@@ -1,6 +1,6 @@
-// Which traps and trap returns are possible: the modes they go between, and a trap's cause.
+// Which mode changes are possible.
 ghost use Rattle.std.specs.Prelude.{◌≡◌};
-ghost use Rattle.qualifying.specs.Changes.{possible_trap, possible_return, possible_cause};
+ghost use Rattle.qualifying.specs.Changes.{possible_trap, possible_return};
 
 use machine::Mode;
 use machine::modes::{is_m, is_virtual};
@@ -22,11 +22,4 @@ pub fn possible_return(source: Mode, target: Mode) -> bool
     ensures { result ≡ possible_return source target }
 {
     possible_trap(target, source)
-}
-
-// Causes from 64 up are of corrupt traces.
-pub fn possible_cause(cause: u64) -> bool
-    ensures { result ≡ possible_cause cause }
-{
-    cause < 64
 }

@@ -117,11 +117,8 @@ const EDGES: [u64; 10] = [
 ];
 
 // The causes that freeze, those beside them, those that are equal to them in their low bits, and the
-// last that is small enough; then those from 64 up: the first, those equal in their low bits to the
-// ones that freeze, and the last.
-const CAUSES: [u64; 23] = [
-    3,
-    13,
+// largest.
+const CAUSES: [u64; 15] = [
     3,
     13,
     3,
@@ -129,19 +126,13 @@ const CAUSES: [u64; 23] = [
     0,
     2,
     4,
-    5,
-    8,
     12,
     14,
-    0x13,
-    0x23,
-    0x3D,
-    63,
-    64,
-    0x43,
-    0x4D,
+    0x1_0000_0003,
+    0x1_0000_000D,
     0x8000_0000_0000_0003,
     0x8000_0000_0000_000D,
+    0x13,
     0xFFFF_FFFF_FFFF_FFFF,
 ];
 
@@ -264,10 +255,10 @@ fn return_target(mode: Mode, c: u64) -> Mode {
     }
 }
 
-// One of 24 is any cause.
+// One of 16 is any cause.
 fn cause_of(choice: u64, z: u64) -> u64 {
-    let at = (choice % 24) as usize;
-    if at < 23 { CAUSES[at] } else { z }
+    let at = (choice % 16) as usize;
+    if at < 15 { CAUSES[at] } else { z }
 }
 
 fn trap(mode: Mode, c: u64, z: u64, epc: u64, handler: u64, n: u64) -> Event {

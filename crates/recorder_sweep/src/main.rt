@@ -3,7 +3,6 @@
 #![tactic(auto)]
 
 mod bench_lines;
-mod causes;
 mod counts;
 mod depths;
 mod draw_events;

@@ -1,5 +1,4 @@
 // Long lists of random events, each from a random state.
-use crate::causes::{Causes, no_causes, put_causes, with_cause};
 use crate::counts::{Counts, no_counts, put_counts_met, with_answered};
 use crate::depths::{Depths, no_depths, put_depths, with_step};
 use crate::draw_events::draw_event;
@@ -18,7 +17,7 @@ use recorder::ENTRIES;
 use recorder::steps::step_in_place;
 use std::num::wrapping_add_u64;
 use sweep_support::digests::digest_answer;
-use sweep_support::lines::{put_count, put_counts, put_numbers, put_word};
+use sweep_support::lines::{put_count, put_counts, put_word};
 use sweep_support::states::digest_state;
 use test_support::SEED;
 use trace::codes::flag;
@@ -31,14 +30,12 @@ struct Tally {
     events: u64,
     frozen: u64,
     numbers: [u64; 6],
-    eights: u64,
     values: [u64; 5],
     edges: [u64; CELLS],
     depths: Depths,
     counts: Counts,
     mispredictions: Mispredictions,
     switched: Switched,
-    causes: Causes,
     answers: u64,
     states: u64,
 }
@@ -66,7 +63,6 @@ fn tallied(t: Tally, transfer: bool, number: u64, value: u64) -> Tally {
     if k < 6 {
         next.numbers[k] = wrapping_add_u64(next.numbers[k], 1);
     }
-    next.eights = wrapping_add_u64(next.eights, flag(number == 8));
     let v = value_index(value) as usize;
     if transfer && number == 0 && v < 5 {
         next.values[v] = wrapping_add_u64(next.values[v], 1);
@@ -164,15 +160,6 @@ fn with_switched(t: Tally, good: bool, e: Event, zc: bool, number: u64, value: u
     next
 }
 
-// What the cause of a trap met.
-fn with_causes(t: Tally, e: Event, r: Registers) -> Tally {
-    let mut next = t;
-    let c = t.causes;
-    let causes = with_cause(c, e, r);
-    next.causes = causes;
-    next
-}
-
 fn started(t: Tally, random: u64, good: bool) -> Tally {
     let mut next = t;
     next.random = random;
@@ -206,7 +193,6 @@ fn run_event(
     tally = with_counts(tally, l.good, e, ctrdata, r, registers, a.number, a.value);
     tally = with_mispredictions(tally, l.good, e, r, old, a.number, a.value);
     tally = with_switched(tally, l.good, e, r.constants.zc, a.number, a.value);
-    tally = with_causes(tally, e, r);
     tally.random = drawn.random;
     tally.frozen = wrapping_add_u64(tally.frozen, flag(r.buffer.frozen));
     tally.states = digest_state(tally.states, registers, ctrsource, ctrtarget, ctrdata);
@@ -247,14 +233,12 @@ fn run_lists() -> Tally {
         events: 0,
         frozen: 0,
         numbers: [0; 6],
-        eights: 0,
         values: [0; 5],
         edges: [0; CELLS],
         depths: no_depths(),
         counts: no_counts(),
         mispredictions: no_mispredictions(),
         switched: no_switched(),
-        causes: no_causes(),
         answers: 0,
         states: 0,
     };
@@ -265,18 +249,12 @@ fn run_lists() -> Tally {
 }
 
 // How often each number was answered, and each value.
-fn put_answers(
-    out: &mut [u8],
-    at: usize,
-    numbers: [u64; 6],
-    eights: u64,
-    values: [u64; 5],
-) -> usize {
-    let next = put_numbers(out, at, b"  number ", &numbers, eights);
+fn put_answers(out: &mut [u8], at: usize, numbers: [u64; 6], values: [u64; 5]) -> usize {
+    let next = put_counts(out, at, b"  number ", &numbers);
     put_counts(out, next, b"  value ", &values)
 }
 
-// The edges, the depths, the counts, the flags, the switched words and the causes that were met.
+// The edges, the depths, the counts, the flags and the switched words that were met.
 fn put_met(
     out: &mut [u8],
     at: usize,
@@ -285,14 +263,12 @@ fn put_met(
     counts: Counts,
     mispredictions: Mispredictions,
     switched: Switched,
-    causes: Causes,
 ) -> usize {
     let mut next = put_edges(out, at, edges);
     next = put_depths(out, next, depths);
     next = put_counts_met(out, next, counts);
     next = put_mispredictions(out, next, mispredictions);
-    next = put_switched(out, next, switched);
-    put_causes(out, next, causes)
+    put_switched(out, next, switched)
 }
 
 pub(crate) fn report() {
@@ -310,8 +286,7 @@ pub(crate) fn report() {
     let counts = t.counts;
     let mispredictions = t.mispredictions;
     let switched = t.switched;
-    let causes = t.causes;
-    at = put_answers(&mut out, at, numbers, t.eights, values);
+    at = put_answers(&mut out, at, numbers, values);
     at = put_met(
         &mut out,
         at,
@@ -320,7 +295,6 @@ pub(crate) fn report() {
         counts,
         mispredictions,
         switched,
-        causes,
     );
     at = put_word(&mut out, at, b"  answers 0x", t.answers);
     at = put_word(&mut out, at, b"  states 0x", t.states);

@@ -14,7 +14,7 @@ fn is_transfer(head: u64) -> bool {
 }
 
 fn count(counts: &mut [u64; COUNTS], place: u64)
-    requires { place < 16 }
+    requires { place < 13 }
 {
     let k = place as usize;
     counts[k] = wrapping_add_u64(counts[k], 1);

@@ -11,7 +11,7 @@ use trace::codes::{flag, mode_code};
 use transfers::counts::decoded;
 
 // How often each number was answered, then how often each value; each with a place for all others.
-pub(crate) const COUNTS: usize = 16;
+pub(crate) const COUNTS: usize = 13;
 
 const REGISTERS: usize = 11;
 
@@ -20,7 +20,7 @@ fn put_words(out: &mut [u8], at: usize, k: u64) -> usize {
     put_line(
         out,
         at,
-        b"answered\nillegal instruction\nvirtual instruction\nno such register\nmode change not possible\nbad state\nanother number\nanother number\ncause from 64 up\nanother number\nnothing\nrecorded\nreturn popped\nswapped in place\nfrozen by this trap\nanother value",
+        b"answered\nillegal instruction\nvirtual instruction\nno such register\nmode change not possible\nbad state\nanother number\nnothing\nrecorded\nreturn popped\nswapped in place\nfrozen by this trap\nanother value",
         k,
     )
 }

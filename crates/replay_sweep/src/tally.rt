@@ -6,7 +6,7 @@ use machine::answers::number_index;
 use machine::good::is_good;
 use std::num::{wrapping_add_u64, wrapping_add_usize};
 use sweep_support::digests::digest_answer;
-use sweep_support::lines::{put_count, put_numbered, put_numbers, put_word};
+use sweep_support::lines::{put_count, put_counts, put_numbered, put_word};
 use trace::codes::flag;
 
 // What the runs gave, how often each number was answered, how many runs ended in a bad state, how many
@@ -18,7 +18,6 @@ pub(crate) struct Tally {
     given: [u64; 10],
     events: u64,
     numbers: [u64; 6],
-    eights: u64,
     bad: u64,
     kept: u64,
     cuts: u64,
@@ -33,7 +32,6 @@ pub(crate) fn nothing() -> Tally {
         given: [0; 10],
         events: 0,
         numbers: [0; 6],
-        eights: 0,
         bad: 0,
         kept: 0,
         cuts: 0,
@@ -63,7 +61,6 @@ fn with_number(t: Tally, answers: &[u64; ROOM], at: usize) -> Tally {
         if k < 6 {
             next.numbers[k] = wrapping_add_u64(next.numbers[k], 1);
         }
-        next.eights = wrapping_add_u64(next.eights, flag(answers[at] == 8));
     }
     next
 }
@@ -127,7 +124,7 @@ pub(crate) fn report(t: Tally) {
     at = put_count(&mut out, at, b"  runs ", t.runs);
     at = put_given(&mut out, at, given);
     at = put_count(&mut out, at, b"  events ", t.events);
-    at = put_numbers(&mut out, at, b"  number ", &numbers, t.eights);
+    at = put_counts(&mut out, at, b"  number ", &numbers);
     at = put_count(&mut out, at, b"  bad ", t.bad);
     at = put_count(&mut out, at, b"  words kept ", t.kept);
     at = put_cuts(&mut out, at, t);

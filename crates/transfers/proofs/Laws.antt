@@ -17,9 +17,8 @@ use Rattle.machine.specs.declared.Mode.{Mode}
 use Rattle.machine.specs.declared.Registers.{Registers}
 use Rattle.machine.specs.declared.Entry.{Entry}
 use Rattle.machine.specs.declared.Decision.{Decision}
-use Rattle.machine.specs.declared.Verdict.{Verdict}
-use Rattle.machine.specs.declared.Verdict.TheVariants.{ChangeNotPossible, CauseTooLarge}
-use Rattle.qualifying.specs.Changes.{possible_trap, possible_return, possible_cause}
+use Rattle.machine.specs.declared.Verdict.TheVariants.{ChangeNotPossible}
+use Rattle.qualifying.specs.Changes.{possible_trap, possible_return}
 use Rattle.transfers.specs.Counts.{live_cycles, cycles_of, tallied}
 use Rattle.transfers.specs.Records.{side_pc, advanced, retreated}
 use Rattle.qualifying.specs.Filters.{freezes_of}
@@ -85,10 +84,10 @@ good_crossed r old m n e o q =
     let p = good_done (tallied r ra n) old e ra o (good_tally r ra n q) in
     record { code = p.code; pointer = p.pointer; control = p.control; guest = p.guest; counter = p.counter }
 
--- a decision, or a refusal
-good_unless : (b : Bool) (r : Registers) (v : Verdict) (d : Decision) → Good r → Good d.registers → Good (if b then d else refused r v).registers
-good_unless true r v d q p = p
-good_unless false r v d q p = q
+-- a possible change of mode, or a refusal
+good_change : (b : Bool) (r : Registers) (d : Decision) → Good r → Good d.registers → Good (if b then d else refused r ChangeNotPossible).registers
+good_change true r d q p = p
+good_change false r d q p = q
 
 pub stays_good : (r : Registers) (old : Entry) → StaysGood r old
 unfolding retired_of trap_of taken_trap return_of taken_return
@@ -97,11 +96,10 @@ stays_good r old =
       retired = (λ n w h. whole _ (good_done _ old _ _ (retired_outcome r n) (good_tally r _ w.cycles (parts r h))));
       trap = (λ t h.
           let q = parts r h in
-          let p = good_unless (possible_trap r.mode t.mode) r ChangeNotPossible (taken_trap r old t) q (good_crossed r old _ _ _ _ q) in
-          whole _ (good_unless (possible_cause t.cause) r CauseTooLarge _ q p));
+          whole _ (good_change (possible_trap r.mode t.mode) r (taken_trap r old t) q (good_crossed r old _ _ _ _ q)));
       trap_return = (λ t h.
           let q = parts r h in
-          whole _ (good_unless (possible_return r.mode t.mode) r ChangeNotPossible (taken_return r old t) q (good_crossed r old _ _ _ _ q)));
+          whole _ (good_change (possible_return r.mode t.mode) r (taken_return r old t) q (good_crossed r old _ _ _ _ q)));
     }
 
 -- a possible trap or return, put together from what its calls give

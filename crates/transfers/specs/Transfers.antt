@@ -12,8 +12,8 @@ use Rattle.machine.specs.declared.Decision.{Decision}
 use Rattle.machine.specs.declared.RetiredWord.{RetiredWord}
 use Rattle.machine.specs.declared.TrapTo.{TrapTo}
 use Rattle.machine.specs.declared.ReturnTo.{ReturnTo}
-use Rattle.machine.specs.declared.Verdict.TheVariants.{ChangeNotPossible, CauseTooLarge}
-use Rattle.qualifying.specs.Changes.{possible_trap, possible_return, possible_cause}
+use Rattle.machine.specs.declared.Verdict.TheVariants.{ChangeNotPossible}
+use Rattle.qualifying.specs.Changes.{possible_trap, possible_return}
 use Rattle.transfers.specs.Counts.{restarted, tallied, stamped}
 use Rattle.transfers.specs.Records.{entry_for, side_pc, popped, advanced, retreated}
 use Rattle.qualifying.specs.Outcomes.{rasemu_of, retired_outcome, trap_outcome, trap_type, return_outcome, return_type}
@@ -63,12 +63,9 @@ unfoldable pub taken_trap : Registers → Entry → TrapTo → Decision
 taken_trap r old t =
     crossed_of r old t.mode t.cycles (crossing r t.mode t.epc t.handler (trap_type t.interrupt)) (trap_outcome r t)
 
--- a trap; one that is not possible is refused, by its cause first
+-- a trap; one that is not possible is refused
 unfoldable pub trap_of : Registers → Entry → TrapTo → Decision
-trap_of r old t =
-    if possible_cause t.cause
-    then (if possible_trap r.mode t.mode then taken_trap r old t else refused r ChangeNotPossible)
-    else refused r CauseTooLarge
+trap_of r old t = if possible_trap r.mode t.mode then taken_trap r old t else refused r ChangeNotPossible
 
 -- a possible trap return
 unfoldable pub taken_return : Registers → Entry → ReturnTo → Decision

@@ -13,7 +13,7 @@ use machine::answers::{accept, accept_put, refuse, value};
 use machine::depths::{physical, wrapped};
 use machine::regs::{with_cycles, with_frozen, with_mode};
 use machine::{Decision, Entry, Mode, Outcome, Registers, ReturnTo, TrapTo, Verdict};
-use qualifying::changes::{possible_cause, possible_return, possible_trap};
+use qualifying::changes::{possible_return, possible_trap};
 use qualifying::outcomes::{RETURN_TYPE, rasemu, return_outcome, trap_outcome, trap_type};
 
 // The physical entry that an outcome is about.
@@ -129,14 +129,10 @@ pub fn trap(r: Registers, old: Entry, t: TrapTo) -> Decision
 {
     let m = r.mode;
     let n = t.mode;
-    if possible_cause(t.cause) {
-        if possible_trap(m, n) {
-            take_trap(r, old, t)
-        } else {
-            refuse(r, Verdict::ChangeNotPossible)
-        }
+    if possible_trap(m, n) {
+        take_trap(r, old, t)
     } else {
-        refuse(r, Verdict::CauseTooLarge)
+        refuse(r, Verdict::ChangeNotPossible)
     }
 }
 

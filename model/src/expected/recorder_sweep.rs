@@ -2,7 +2,6 @@
 //! pairs of lists that differ only where modes are off.
 
 mod bench_lines;
-mod causes;
 mod counts;
 mod depths;
 mod draw;

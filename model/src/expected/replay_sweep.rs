@@ -7,13 +7,12 @@ use std::array;
 use std::ops::Range;
 
 use self::input::{rows, BROKEN, GOOD};
-use super::number_lines;
 use super::random::Random;
 use super::recorder_sweep::with_state;
 use crate::digest::extended;
 use crate::recorder::Machine;
 use crate::registers::Registers;
-use crate::replay::{bytes_of, place_of_number, Row, NUMBERS};
+use crate::replay::{bytes_of, Row};
 use crate::run::Outcome;
 
 /// How many slices are run, and how many rows they have at most.
@@ -78,7 +77,7 @@ struct Tally {
     runs: u64,
     given: [u64; 10],
     events: u64,
-    numbers: [u64; NUMBERS.len()],
+    numbers: [u64; 6],
     bad: u64,
     kept: u64,
     cuts: u64,
@@ -94,7 +93,7 @@ impl Tally {
         self.given[usize::from(outcome.number)] += 1;
         self.events += outcome.count;
         for number in bench.numbers(first, outcome.count as usize) {
-            self.numbers[place_of_number(number as u8)] += 1;
+            self.numbers[number as usize] += 1;
         }
         self.bad += u64::from(bench.machine.registers.is_bad());
         self.kept += bench.kept();
@@ -120,7 +119,9 @@ impl Tally {
             text += &format!("  gave {number} {}\n", self.given[usize::from(number)]);
         }
         text += &format!("  events {}\n", self.events);
-        text += &number_lines(&self.numbers);
+        for (number, count) in self.numbers.iter().enumerate() {
+            text += &format!("  number {number} {count}\n");
+        }
         text += &format!("  bad {}\n", self.bad);
         text += &format!("  words kept {}\n", self.kept);
         text += &format!("  cuts {}\n", self.cuts);

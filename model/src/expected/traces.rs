@@ -190,8 +190,8 @@ fn rows(sample: &[u8]) -> impl Iterator<Item = Row> + '_ {
 }
 
 /// Every operation, every setting of the host's, every mode as the target of a return and of both
-/// kinds of trap, causes on both sides of the limit, a branch taken and not, mispredicted and not, and
-/// SCTRCLR: each so that the answers or the history tell it from the others.
+/// kinds of trap, a branch taken and not, mispredicted and not, and SCTRCLR: each so that the answers or
+/// the history tell it from the others.
 fn kinds() -> Vec<u8> {
     let mut rows = vec![
         access(Operation::Write, SISELECT, 0x20F),
@@ -237,9 +237,6 @@ fn kinds() -> Vec<u8> {
         retired(true, false, 0xC100),
         retired(false, true, 0xC200),
         retired(true, true, 0xC300),
-        trap_by(63, Mode::M, false, 0xC400),
-        trap_by(64, Mode::M, false, 0xC500),
-        trap_by(u64::MAX, Mode::U, true, 0xC600),
     ]);
     [setup(ALL_BRANCHES), bytes_of(rows)].concat()
 }
@@ -256,14 +253,10 @@ fn retired(taken: bool, mispredicted: bool, pc: u64) -> Row {
 }
 
 fn trap(target_mode: Mode, is_interrupt: bool, epc: u64) -> Row {
-    trap_by(2, target_mode, is_interrupt, epc)
-}
-
-fn trap_by(cause: u64, target_mode: Mode, is_interrupt: bool, epc: u64) -> Row {
     encode(Event::Trap(Trap {
         target_mode,
         is_interrupt,
-        cause,
+        cause: 2,
         epc,
         handler: epc + 0x10,
         cycles: 40,

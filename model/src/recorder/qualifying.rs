@@ -23,7 +23,7 @@ const INHIBITS: u32 = 32;
 const BREAKPOINT: u64 = 3;
 const COUNTER_OVERFLOW: u64 = 13;
 
-pub(crate) fn is_possible_trap(source: Mode, target: Mode) -> bool {
+pub(super) fn is_possible_trap(source: Mode, target: Mode) -> bool {
     match source {
         U => matches!(target, S | M),
         VU | VS => matches!(target, VS | S | M),
@@ -114,7 +114,7 @@ impl Registers {
     }
 
     /// Whether a possible trap sets FROZEN, by the control register of its target mode.
-    pub(crate) fn is_freezing(&self, trap: &Trap) -> bool {
+    pub(super) fn is_freezing(&self, trap: &Trap) -> bool {
         let bit = match (trap.is_interrupt, trap.cause) {
             (false, BREAKPOINT) => BPFRZ,
             (true, COUNTER_OVERFLOW) => LCOFIFRZ,

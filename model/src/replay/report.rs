@@ -1,32 +1,20 @@
 //! What is printed of a trace after its answers.
 
-use crate::access::{Answer, BAD_STATE, GRANTED};
+use crate::access::{Answer, GRANTED};
 use crate::cycles::valid_count;
-use crate::recorder::{Event, Machine, BAD_CAUSE};
+use crate::recorder::{Event, Machine};
 use crate::registers::{Entry, Register, Registers};
 
-/// What the numbers of answers mean, in ascending order. A selection outside the window has the
-/// words of an unlisted CSR number.
-pub const NUMBERS: [&str; 7] = [
+/// What the numbers of answers mean. A selection outside the window has the words of an unlisted
+/// CSR number.
+pub const NUMBERS: [&str; 6] = [
     "answered",
     "illegal instruction",
     "virtual instruction",
     "no such register",
     "mode change not possible",
     "bad state",
-    "cause from 64 up",
 ];
-
-/// Where the words of an answer's number stand in `NUMBERS`. Panics if no event is answered with
-/// it: 6 and 7 are numbers of runs.
-#[inline]
-pub fn place_of_number(number: u8) -> usize {
-    match number {
-        GRANTED..=BAD_STATE => number.into(),
-        BAD_CAUSE => NUMBERS.len() - 1,
-        _ => panic!("no event is answered with {number}"),
-    }
-}
 
 /// What the values of retired words, traps and trap returns mean.
 pub const VALUES: [&str; 5] = [
@@ -81,7 +69,7 @@ impl Run {
     pub fn step(&mut self, event: Event) -> Answer {
         let answer = self.machine.step(event);
         self.events += 1;
-        self.numbers[place_of_number(answer.number)] += 1;
+        self.numbers[usize::from(answer.number)] += 1;
         if answer.number == GRANTED && event.is_transfer() {
             self.values[answer.value as usize] += 1;
         }
@@ -294,9 +282,9 @@ zc 0x1
     #[test]
     fn counts_come_in_ascending_order() {
         assert_eq!(
-            counts(&NUMBERS, &[7, 6, 5, 4, 3, 2, 1]),
-            "answered: 7\nillegal instruction: 6\nvirtual instruction: 5\nno such register: 4\n\
-             mode change not possible: 3\nbad state: 2\ncause from 64 up: 1\n"
+            counts(&NUMBERS, &[6, 5, 4, 3, 2, 1]),
+            "answered: 6\nillegal instruction: 5\nvirtual instruction: 4\nno such register: 3\n\
+             mode change not possible: 2\nbad state: 1\n"
         );
         assert_eq!(
             counts(&VALUES, &[5, 4, 3, 2, 1]),
@@ -304,27 +292,6 @@ zc 0x1
              frozen by this trap: 1\n"
         );
         assert_eq!(counts(&VALUES, &[0, 7, 0, 0, 0]), "recorded: 7\n");
-    }
-
-    #[test]
-    fn numbers_have_their_words() {
-        for (number, words) in [
-            (0, "answered"),
-            (1, "illegal instruction"),
-            (2, "virtual instruction"),
-            (3, "no such register"),
-            (4, "mode change not possible"),
-            (5, "bad state"),
-            (8, "cause from 64 up"),
-        ] {
-            assert_eq!(NUMBERS[place_of_number(number)], words);
-        }
-    }
-
-    #[test]
-    #[should_panic = "no event is answered with 6"]
-    fn numbers_of_runs_have_none() {
-        place_of_number(6);
     }
 
     #[test]

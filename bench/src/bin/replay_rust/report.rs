@@ -3,17 +3,14 @@
 use super::cycles::valid_count;
 use super::recorder::{Entry, Recorder, MISP, V};
 use super::run::Run;
-use model::replay::{place_of_number, NUMBERS, TYPES, VALUES};
+use model::replay::{NUMBERS, TYPES, VALUES};
 
 /// The TYPE field of ctrdata.
 const TYPE: u64 = 0xF;
 
 impl Run {
     pub fn report(&self) -> String {
-        let mut numbers = [0; NUMBERS.len()];
-        for number in [1, 2, 3, 4, 8] {
-            numbers[place_of_number(number)] = self.refusals[usize::from(number)];
-        }
+        let mut numbers = self.refusals;
         numbers[0] = self.values.iter().sum::<u64>() + self.others;
         let mut text = format!("events {}\n", numbers.iter().sum::<u64>());
         text += &counts(&NUMBERS, &numbers);

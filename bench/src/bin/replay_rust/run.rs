@@ -17,10 +17,6 @@ const HOST: u64 = 5;
 /// The number of a refused mode change.
 const NOT_POSSIBLE: u8 = 4;
 
-/// The number of a trap whose cause is too large, and the least such cause.
-const CAUSE_TOO_LARGE: u8 = 8;
-const CAUSES: u64 = 64;
-
 #[derive(Clone, Copy)]
 pub struct Answer {
     pub number: u8,
@@ -31,8 +27,8 @@ pub struct Run {
     pub recorder: Recorder,
     /// How often each value was answered to a transfer.
     pub values: [u64; 5],
-    /// How often each number but 0 was answered. 5 to 7 never are.
-    pub refusals: [u64; 9],
+    /// How often each number but 0 was answered. 5 never is.
+    pub refusals: [u64; 5],
     /// How often 0 was answered to another event than a transfer.
     pub others: u64,
 }
@@ -42,7 +38,7 @@ impl Run {
         Run {
             recorder: Recorder::reset(zc),
             values: [0; 5],
-            refusals: [0; 9],
+            refusals: [0; 5],
             others: 0,
         }
     }
@@ -62,9 +58,6 @@ impl Run {
         match kind {
             TRAP if fields < 16 => {
                 let to = Mode::of(fields % 8)?;
-                if a >= CAUSES {
-                    return Some(self.refusal(CAUSE_TOO_LARGE));
-                }
                 let value = self.recorder.trap(to, fields >> 3 == 1, a, b, c, cycles);
                 Some(self.mode_change(value))
             }

@@ -115,11 +115,8 @@ const EDGES: [u64; 10] = [
 ];
 
 /// The causes that freeze, those beside them, those that are equal to them in their low bits, and
-/// the last that is small enough; then those from 64 up: the first, those equal in their low bits
-/// to the ones that freeze, and the last. One of 24 is any cause.
-const CAUSES: [u64; 23] = [
-    3,
-    13,
+/// the largest. One of 16 is any cause.
+const CAUSES: [u64; 15] = [
     3,
     13,
     3,
@@ -127,19 +124,13 @@ const CAUSES: [u64; 23] = [
     0,
     2,
     4,
-    5,
-    8,
     12,
     14,
-    0x13,
-    0x23,
-    0x3D,
-    63,
-    64,
-    0x43,
-    0x4D,
+    0x1_0000_0003,
+    0x1_0000_000D,
     0x8000_0000_0000_0003,
     0x8000_0000_0000_000D,
+    0x13,
     u64::MAX,
 ];
 
@@ -283,8 +274,8 @@ pub(super) fn address(x: u64) -> u64 {
 }
 
 fn cause(code: u64, z: u64) -> u64 {
-    match code % 24 {
-        23 => z,
+    match code % 16 {
+        15 => z,
         index => CAUSES[index as usize],
     }
 }

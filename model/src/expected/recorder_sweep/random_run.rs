@@ -1,6 +1,5 @@
 //! Long lists of random events, each list from a random state.
 
-use super::causes::Causes;
 use super::counts::Counts;
 use super::depths::Depths;
 use super::edges::{Edges, RASEMU, TRETINH};
@@ -8,11 +7,9 @@ use super::mispredictions::Mispredictions;
 use super::switch::Switched;
 use super::{with_answer, with_state};
 use crate::access::Answer;
-use crate::expected::number_lines;
 use crate::expected::random::Random;
 use crate::recorder::{Event, Machine};
 use crate::registers::Registers;
-use crate::replay::{place_of_number, NUMBERS};
 
 const LISTS: u64 = 1000;
 
@@ -23,20 +20,19 @@ const EVENTS: u32 = 400;
 const EVENTS_IF_BAD: u32 = 40;
 
 /// How many events met FROZEN, how often each number was answered and each value, the edges, the depths,
-/// the counts, the flags, the switched words and the causes that were met, and digests of answers and of the states after them.
+/// the counts, the flags and the switched words that were met, and digests of answers and of the states after them.
 #[derive(Default)]
 struct Tally {
     bad_starts: u32,
     events: u32,
     frozen: u32,
-    numbers: [u32; NUMBERS.len()],
+    numbers: [u32; 6],
     values: [u32; 5],
     edges: Edges,
     depths: Depths,
     counts: Counts,
     mispredictions: Mispredictions,
     switched: Switched,
-    causes: Causes,
     answers: u64,
     states: u64,
 }
@@ -44,7 +40,7 @@ struct Tally {
 impl Tally {
     fn add(&mut self, event: Event, answer: Answer, after: &Machine) {
         self.events += 1;
-        self.numbers[place_of_number(answer.number)] += 1;
+        self.numbers[usize::from(answer.number)] += 1;
         if answer.number == 0 && event.is_transfer() {
             self.values[answer.value as usize] += 1;
         }
@@ -56,7 +52,9 @@ impl Tally {
         let mut text = format!("  bad starts {}\n", self.bad_starts);
         text += &format!("  events {}\n", self.events);
         text += &format!("  frozen {}\n", self.frozen);
-        text += &number_lines(&self.numbers);
+        for (number, count) in self.numbers.iter().enumerate() {
+            text += &format!("  number {number} {count}\n");
+        }
         for (value, count) in self.values.iter().enumerate() {
             text += &format!("  value {value} {count}\n");
         }
@@ -65,7 +63,6 @@ impl Tally {
         text += &self.counts.lines();
         text += &self.mispredictions.lines();
         text += &self.switched.lines();
-        text += &self.causes.lines();
         text += &format!("  answers 0x{:016x}\n", self.answers);
         text + &format!("  states 0x{:016x}\n", self.states)
     }
@@ -96,7 +93,6 @@ fn add_list(tally: &mut Tally, random: &mut Random, list: u64) {
         let before = machine.clone();
         let answer = machine.step(event);
         tally.edges.add(&before.registers, machine.registers.mode);
-        tally.causes.add(event, &before.registers);
         if !is_bad {
             let value = (answer.number == 0 && event.is_transfer()).then_some(answer.value);
             let registers = &before.registers;
@@ -153,7 +149,5 @@ mod tests {
         assert!(!tally.counts.has_none(), "{}", tally.lines());
         assert!(!tally.mispredictions.has_none(), "{}", tally.lines());
         assert!(!tally.switched.has_none(), "{}", tally.lines());
-        assert!(!tally.causes.has_none(), "{}", tally.lines());
-        assert_eq!(tally.causes.large(), tally.numbers[place_of_number(8)]);
     }
 }

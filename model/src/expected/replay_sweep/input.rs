@@ -120,7 +120,7 @@ mod tests {
                 values.insert(answer.value);
             }
         }
-        assert_eq!(numbers, HashSet::from([0, 1, 2, 3, 4, 8]));
+        assert_eq!(numbers, HashSet::from([0, 1, 2, 3, 4]));
         assert_eq!(values, HashSet::from([0, 1, 2, 3, 4]));
         assert_eq!(modes, HashSet::from([0, 1, 2, 3, 4]));
     }

@@ -19,7 +19,6 @@ run_lists_spec =
     (λ c κs. tt)
     (λ c κs. tt)
     (λ c κs. tt)
-    (λ c κs. tt)
     (λ c. search rules)
     (λ c κs. tt)
     (λ c. search rules)

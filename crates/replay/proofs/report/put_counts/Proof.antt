@@ -4,10 +4,10 @@ use Rattle.replay.proofs.report.put_counts.Statement.{statement}
 use Rattle.replay.proofs.report.put_counts.Tie as tie
 
 abbrev invariant_loop : tie.invariant-loop
-invariant_loop out₀ at counts events next₀ k₀ out next k = (k ≤ 16) × (length out ≡ length out₀)
+invariant_loop out₀ at counts events next₀ k₀ out next k = (k ≤ 13) × (length out ≡ length out₀)
 
 abbrev decreases_loop : tie.decreases-loop
-decreases_loop out₀ at counts events next₀ k₀ out next k = 16 - k
+decreases_loop out₀ at counts events next₀ k₀ out next k = 13 - k
 
 pub put_counts_spec : {M : Type 1} → statement M
 put_counts_spec =

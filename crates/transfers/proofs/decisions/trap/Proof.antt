@@ -12,8 +12,5 @@ trap_spec =
     (λ c κs. tt)
     (λ c κs. tt)
     (λ c κs. tt)
-    (λ c κs. tt)
-    (λ c κs. tt)
-    (λ c. search picks depth 9)
     (λ c. search picks depth 9)
     (λ c. search picks depth 9))
