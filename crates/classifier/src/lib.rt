@@ -12,7 +12,7 @@ ghost use Rattle.classifier.specs.Transfers.{plain_transfer, transfer_of, instru
 ghost use Rattle.classifier.specs.Transfers.{link as Transfers·link};
 ghost use Rattle.classifier.specs.Decision.{branch_by, jalr_by, indirect_by, direct_by, wide_by, may_transfer, quadrant1_by, register_jump_by, pop_return_by, pop_by, switched_by};
 
-#[derive(Drop)]
+#[derive(Clone, Copy)]
 pub enum Transfer {
     None,
     Branch,
@@ -27,7 +27,7 @@ pub enum Transfer {
 }
 
 // What an instruction word is: its transfer, and its length in bytes.
-#[derive(Drop)]
+#[derive(Clone, Copy)]
 pub struct Instruction {
     pub transfer: Transfer,
     pub length: u8,

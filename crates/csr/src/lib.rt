@@ -5,7 +5,7 @@ pub mod numbers;
 pub mod steps;
 
 // Whose register it is: mctrctl is the machine's, sctrctl the supervisor's, vsctrctl the guest's.
-#[derive(Drop)]
+#[derive(Clone, Copy)]
 pub enum View {
     Machine,
     Supervisor,
@@ -14,7 +14,7 @@ pub enum View {
 
 // What a CSR number reaches: the control register, the select register or an entry register of a
 // view, the last with the index of an entry word; or sctrdepth, or sctrstatus.
-#[derive(Drop)]
+#[derive(Clone, Copy)]
 pub enum Csr {
     Control(View),
     Select(View),
@@ -25,7 +25,7 @@ pub enum Csr {
 }
 
 // What the access steps ask of a register or of SCTRCLR.
-#[derive(Drop)]
+#[derive(Clone, Copy)]
 pub struct Facts {
     pub unlisted: bool,
     // a register of M alone

@@ -13,7 +13,7 @@ use offsets::{branch_offset, c_j_offset, jal_offset};
 use std::num::wrapping_add_u64;
 
 // Why an entry does not fit, in the order in which the reasons are looked for.
-#[derive(Drop)]
+#[derive(Clone, Copy)]
 pub enum Reason {
     SourceOutside,
     CutOff,
@@ -22,7 +22,7 @@ pub enum Reason {
 }
 
 // The answer: accepted; refused, with the number why; or the first misfit, by its index and the reason.
-#[derive(Drop)]
+#[derive(Clone, Copy)]
 pub enum Checked {
     Accepted,
     Refused(u64),
@@ -30,7 +30,7 @@ pub enum Checked {
 }
 
 // What stands in the image at an address. This type and the next are public for the proofs of dump_demands alone.
-#[derive(Drop)]
+#[derive(Clone, Copy)]
 pub enum Fetched {
     Outside,
     Cut,
@@ -38,7 +38,7 @@ pub enum Fetched {
 }
 
 // The verdict on one entry.
-#[derive(Drop)]
+#[derive(Clone, Copy)]
 pub enum Verdict {
     Fits,
     Breaks(Reason),

@@ -9,7 +9,7 @@ pub mod good;
 pub mod modes;
 pub mod regs;
 
-#[derive(Drop)]
+#[derive(Clone, Copy)]
 pub enum Mode {
     U,
     S,
@@ -19,14 +19,14 @@ pub enum Mode {
 }
 
 // A control register; sctrctl is a window on mctrctl.
-#[derive(Drop)]
+#[derive(Clone, Copy)]
 pub enum ControlRegister {
     Mctrctl,
     Vsctrctl,
 }
 
 // A bit of a control register.
-#[derive(Drop)]
+#[derive(Clone, Copy)]
 pub enum ControlBit {
     U,
     S,
@@ -51,48 +51,48 @@ pub enum ControlBit {
     DIRLJMPINH,
 }
 
-#[derive(Drop)]
+#[derive(Clone, Copy)]
 pub struct ControlWords {
     pub mctrctl: u64,
     pub vsctrctl: u64,
 }
 
 // The buffer but for its entries: the depth code, WRPTR and FROZEN.
-#[derive(Drop)]
+#[derive(Clone, Copy)]
 pub struct Buffer {
     pub code: u64,
     pub wrptr: u64,
     pub frozen: bool,
 }
 
-#[derive(Drop)]
+#[derive(Clone, Copy)]
 pub struct Selects {
     pub siselect: u64,
     pub vsiselect: u64,
 }
 
 // The CTR bits of the state-enable registers.
-#[derive(Drop)]
+#[derive(Clone, Copy)]
 pub struct Enables {
     pub mstateen0: bool,
     pub hstateen0: bool,
 }
 
 // The cycle counter, and the CCV that an ordinary record would now get.
-#[derive(Drop)]
+#[derive(Clone, Copy)]
 pub struct Cycles {
     pub counter: u64,
     pub ccv: bool,
 }
 
 // What is fixed at reset and no event changes: whether the machine has Zcmp and Zcmt.
-#[derive(Drop)]
+#[derive(Clone, Copy)]
 pub struct Constants {
     pub zc: bool,
 }
 
 // All small state, in groups. Any value of the fields is possible.
-#[derive(Drop)]
+#[derive(Clone, Copy)]
 pub struct Registers {
     pub mode: Mode,
     pub controls: ControlWords,
@@ -104,7 +104,7 @@ pub struct Registers {
 }
 
 // The three words of an entry.
-#[derive(Drop)]
+#[derive(Clone, Copy)]
 pub struct Entry {
     pub ctrsource: u64,
     pub ctrtarget: u64,
@@ -113,7 +113,7 @@ pub struct Entry {
 
 // A retired word; a 16-bit one in the low half. Mispredicted is the flag that a record or swap has as MISP.
 // Its cycles are those since the event before it; so of the other two below.
-#[derive(Drop)]
+#[derive(Clone, Copy)]
 pub struct RetiredWord {
     pub word: u32,
     pub pc: u64,
@@ -124,7 +124,7 @@ pub struct RetiredWord {
 }
 
 // A trap to a mode.
-#[derive(Drop)]
+#[derive(Clone, Copy)]
 pub struct TrapTo {
     pub mode: Mode,
     pub interrupt: bool,
@@ -135,7 +135,7 @@ pub struct TrapTo {
 }
 
 // A trap return to a mode.
-#[derive(Drop)]
+#[derive(Clone, Copy)]
 pub struct ReturnTo {
     pub mode: Mode,
     pub pc: u64,
@@ -143,7 +143,7 @@ pub struct ReturnTo {
     pub cycles: u32,
 }
 
-#[derive(Drop)]
+#[derive(Clone, Copy)]
 pub enum Operation {
     Read,
     Write,
@@ -152,7 +152,7 @@ pub enum Operation {
 }
 
 // A register access by CSR number.
-#[derive(Drop)]
+#[derive(Clone, Copy)]
 pub struct CsrAccess {
     pub operation: Operation,
     pub number: u64,
@@ -161,7 +161,7 @@ pub struct CsrAccess {
 
 // What happens to the machine. Sctrclr is the instruction that clears all entries; the host sets
 // the CTR bits of mstateen0 and hstateen0.
-#[derive(Drop)]
+#[derive(Clone, Copy)]
 pub enum Event {
     Retired(RetiredWord),
     Trap(TrapTo),
@@ -172,7 +172,7 @@ pub enum Event {
 }
 
 // Whether an event is accepted, and why not.
-#[derive(Drop)]
+#[derive(Clone, Copy)]
 pub enum Verdict {
     Accepted,
     IllegalInstruction,
@@ -183,7 +183,7 @@ pub enum Verdict {
 }
 
 // What comes of a retired word, a trap or a trap return.
-#[derive(Drop)]
+#[derive(Clone, Copy)]
 pub enum Outcome {
     Nothing,
     Record,
@@ -193,7 +193,7 @@ pub enum Outcome {
 }
 
 // What becomes of the entries: nothing, the entry in focus is put, or all words are zeroed.
-#[derive(Drop)]
+#[derive(Clone, Copy)]
 pub enum Effect {
     Keep,
     Put(Entry),
@@ -201,7 +201,7 @@ pub enum Effect {
 }
 
 // What an event decides, given the registers and the entry in focus.
-#[derive(Drop)]
+#[derive(Clone, Copy)]
 pub struct Decision {
     pub number: u64,
     pub value: u64,

@@ -29,7 +29,7 @@ pub struct Stepped {
 }
 
 // An answer, and the registers after it.
-#[derive(Drop)]
+#[derive(Clone, Copy)]
 pub struct Answered {
     pub number: u64,
     pub value: u64,

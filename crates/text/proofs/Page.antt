@@ -10,7 +10,7 @@ use native.Mathlib.Omega.{arith}
 use lib.Dec.{ltb}
 use lib.ListN.{length, take, drop, set, length-set}
 use lib.Seq.{sets, sets-eq}
-use borrow.Author.Rules.{zero≤}
+use Rattle.std.proofs.Common.{zero-le}
 use borrow.Author.Tests.{ltb-true, lt-ltb, le-ltb}
 use Rattle.bits.specs.Choice.{if◌then◌else◌}
 use Rattle.text.specs.Page.{Page, page, with_byte, written}
@@ -76,7 +76,7 @@ pub text_within : (n m : ℕ) (k l s : List ℕ) → page m l ≡ written (page 
 unfolding Within
 text_within n m k l s e h = subst Within (sym e) (text_stays (page n k) s h)
 
-pub ruleset within = (byte_within, text_within, zero≤)
+pub ruleset within = (byte_within, text_within, zero-le)
 
 -- where there is room, each byte is stored
 stored : (n : ℕ) (l s : List ℕ) → n + length s ≤ length l → written (page n l) s ≡ page (n + length s) (sets l n s)

@@ -9,7 +9,7 @@ use machine::{Event, Registers};
 use recorder::State;
 
 // What four words mean: an event, or the first of them that breaks a rule of the format.
-#[derive(Drop)]
+#[derive(Clone, Copy)]
 pub enum Row {
     WellFormed(Event),
     Malformed(u64),
@@ -24,7 +24,7 @@ pub struct Replayed {
 }
 
 // The same of a run in place: the registers after it.
-#[derive(Drop)]
+#[derive(Clone, Copy)]
 pub struct Ran {
     pub number: u64,
     pub count: usize,
@@ -32,7 +32,7 @@ pub struct Ran {
 }
 
 // What became of a row: whether it is well-formed, and then the answer to its event.
-#[derive(Drop)]
+#[derive(Clone, Copy)]
 pub(crate) struct RowRan {
     well_formed: bool,
     number: u64,

@@ -4,4 +4,4 @@ use Rattle.classifier.proofs.link.Statement.{statement}
 use Rattle.classifier.proofs.link.Tie as tie
 
 pub link_spec : {M : Type 1} → statement M
-link_spec = tie.close (tie.spec (λ c. rw (eq-eqb _ _ c.if1.true)) (λ c. rw (ne_eqb _ _ c.if1.false)))
+link_spec = tie.close (tie.spec (λ c. rw (eq-eqb _ _ c.if-r-eq1.true)) (λ c. rw (ne_eqb _ _ c.if-r-eq1.false)))

@@ -52,8 +52,8 @@ put_number_at t = and 1 put-number-kinds.ps (is 1 put-number-kinds.ps μ_put_num
 abbrev put_number_below : ℕ → In 1 put-number-kinds.ps
 put_number_below t = and 1 put-number-kinds.ps (falls 1 put-number-kinds.ps ◌<◌ μ_put_number t) put-number.Pre
 
-pub +put-number-spec : {M : Type 1} → statement M
-+put-number-spec = close μ_put_number λ t. put-number-lts.spec (
+pub +put_number_spec : {M : Type 1} → statement M
++put_number_spec = close μ_put_number λ t. put-number-lts.spec (
   ascii-reads.Asked,
   ascii-reads.Learnt,
   put-byte-reads.Asked,

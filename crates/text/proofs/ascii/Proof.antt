@@ -14,5 +14,5 @@ ascii_spec =
     (λ c. search rules)
     (λ c. search rules)
     (λ c. search rules)
-    (λ c. simp (lt-ltb _ _ c.if1.true))
-    (λ c. simp (le-ltb _ _ c.if1.false)))
+    (λ c. simp (lt-ltb _ _ c.if-d-lt10.true))
+    (λ c. simp (le-ltb _ _ c.if-d-lt10.false)))

@@ -13,5 +13,5 @@ is_same_spec =
     tie.close
     (tie.spec
     (λ c κs. search rules)
-    (λ c. and_yes _ _ _ _ refl (eq-eqb _ _ c.before.if1.true) c.is-same-to.ensures)
-    (λ c. and_no _ _ _ _ refl (ne_eqb _ _ c.if1.false) refl))
+    (λ c. and_yes _ _ _ _ refl (eq-eqb _ _ c.before.if-a-b.true) c.is_same_to.ensures)
+    (λ c. and_no _ _ _ _ refl (ne_eqb _ _ c.if-a-b.false) refl))

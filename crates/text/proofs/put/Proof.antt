@@ -20,11 +20,11 @@ more p q r s i h e f = rw (add-one, take-suc s i 0, written_byte, ← e) f
 all : (p q : Page) (s : List ℕ) (i : ℕ) → length s ≤ i → q ≡ written p (take i s) → q ≡ written p s
 all p q s i h e = e ∙ ap (written p) (take_all i s h)
 
-abbrev invariant_loop : tie.invariant-loop
+abbrev invariant_loop : tie.invariant-loop-i
 invariant_loop out₀ at s next₀ i₀ out next i =
     (i ≤ length s) × (length out ≡ length out₀) × (page next out ≡ written (page at out₀) (take i s))
 
-abbrev decreases_loop : tie.decreases-loop
+abbrev decreases_loop : tie.decreases-loop-i
 decreases_loop out₀ at s next₀ i₀ out next i = length s - i
 
 pub put_spec : {M : Type 1} → statement M

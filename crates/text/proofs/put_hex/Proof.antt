@@ -26,12 +26,12 @@ all p q x w l h e =
     let z : l ≡ 0 = omega arith in
     rw (z, sub-zero w, div-one x) at e
 
-abbrev invariant_loop : tie.invariant-loop
+abbrev invariant_loop : tie.invariant-loop-left
 invariant_loop out₀ at x width next₀ left₀ out next left =
     (left ≤ width) × (length out ≡ length out₀)
     × (page next out ≡ written (page at out₀) (digits 16 (width - left) (x / 16 ^ left)))
 
-abbrev decreases_loop : tie.decreases-loop
+abbrev decreases_loop : tie.decreases-loop-left
 decreases_loop out₀ at x width next₀ left₀ out next left = left
 
 pub put_hex_spec : {M : Type 1} → statement M

@@ -16,5 +16,5 @@ far_rank_spec =
     (λ c. search rules)
     (λ c. search rules)
     (λ c. search rules)
-    (λ c. ap (λ (p : ℕ). 28 + p) c.before.field64.ensures ∙ key_yes _ _ _ _ _ c.if1.true refl)
-    (λ c. ap (λ (p : ℕ). 3 + 28 * p) c.before.field64.ensures ∙ key_no _ _ _ _ _ c.if1.false refl))
+    (λ c. ap (λ (p : ℕ). 28 + p) c.before.field64-pop.ensures ∙ key_yes _ _ _ _ _ c.if-low-eq2.true refl)
+    (λ c. ap (λ (p : ℕ). 3 + 28 * p) c.before.field64-pop.ensures ∙ key_no _ _ _ _ _ c.if-low-eq2.false refl))

@@ -9,8 +9,8 @@ look_requires_3 : tie.Need-look-requires-3
 look_requires_3 c κs =
     let second = c.before.before in
     let first = second.before in
-    let r = row_below _ _ _ _ _ first.before.before.field32.ensures first.before.look.ensures first.widened.ensures in
-    let d = column_below _ _ _ _ _ second.field322.ensures c.before.look2.ensures c.widened2.ensures in
+    let r = row_below _ _ _ _ _ first.before.before.field32.ensures first.before.look.ensures first.widened-row.ensures in
+    let d = column_below _ _ _ _ _ second.field32-2.ensures c.before.look-2.ensures c.widened-column.ensures in
     (first.before.before.before.requires, omega (arith, r, d))
 
 returns : tie.Need-returns
@@ -18,9 +18,9 @@ returns c =
     let second = c.before.before.before in
     let first = second.before in
     looked_type _ _ _ _ _
-    (looked_row _ _ _ _ _ first.before.before.field32.ensures first.before.look.ensures first.widened.ensures)
-    (looked_column _ _ _ _ _ second.field322.ensures c.before.before.look2.ensures c.before.widened2.ensures)
-    c.look3.ensures
+    (looked_row _ _ _ _ _ first.before.before.field32.ensures first.before.look.ensures first.widened-row.ensures)
+    (looked_column _ _ _ _ _ second.field32-2.ensures c.before.before.look-2.ensures c.before.widened-column.ensures)
+    c.look-3.ensures
 
 pub look_up_spec : {M : Type 1} → statement M
 look_up_spec =

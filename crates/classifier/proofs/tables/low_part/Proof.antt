@@ -19,5 +19,5 @@ low_part_spec =
     (λ c. search rules)
     (λ c. search rules)
     (λ c κs. tt)
-    (λ c. rw (c.before.field64.ensures, c.field642.ensures) (below_yes _ _ _ _ _ c.before.before.if1.true refl))
-    (λ c. rw c.field643.ensures (below_no _ _ _ _ _ c.before.if1.false refl)))
+    (λ c. rw (c.before.field64.ensures, c.field64-then-rank-lt28.ensures) (below_yes _ _ _ _ _ c.before.before.if-rank-lt28.true refl))
+    (λ c. rw c.field64-else-rank-lt28.ensures (below_no _ _ _ _ _ c.before.if-rank-lt28.false refl)))

@@ -7,10 +7,10 @@ use Rattle.classifier.proofs.Specimens.{group_bound}
 use Rattle.classifier.proofs.tables.near_rank.Statement.{statement}
 use Rattle.classifier.proofs.tables.near_rank.Tie as tie
 
-mul_result : tie.Need-overflow-mul-result
+mul_result : tie.Need-overflow_mul-result
 mul_result c = let b = group_bound (c.before.args.low % 128) (omega arith) in record { fits = omega (arith, b, c.group.ensures) }
 
-add_result : tie.Need-overflow-add-result
+add_result : tie.Need-overflow_add-result
 add_result c = let b = group_bound (c.before.before.args.low % 128) (omega arith) in record { fits = omega (arith, b, c.before.group.ensures) }
 
 pub near_rank_spec : {M : Type 1} → statement M

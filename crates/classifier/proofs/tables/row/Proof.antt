@@ -6,7 +6,7 @@ use Rattle.classifier.proofs.Specimens.{rank_bound}
 use Rattle.classifier.proofs.tables.row.Statement.{statement}
 use Rattle.classifier.proofs.tables.row.Tie as tie
 
-mul_result : tie.Need-overflow-mul-result
+mul_result : tie.Need-overflow_mul-result
 mul_result c = let b = rank_bound c.before.args.low (search rules) in record { fits = omega (arith, b, c.rank.ensures) }
 
 pub row_spec : {M : Type 1} → statement M

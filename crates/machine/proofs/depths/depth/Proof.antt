@@ -12,4 +12,4 @@ depth_spec =
     (tie.spec
     (λ c κs. tt)
     (λ c. omega arith)
-    (λ c. rw (← c.capped.ensures) (shifted c.capped.result (omega arith))))
+    (λ c. rw (← c.capped-k.ensures) (shifted c.capped-k.result (omega arith))))

@@ -14,5 +14,5 @@ wrapped_spec =
     (tie.spec
     (λ c κs. tt)
     (λ c. omega arith)
-    (λ c. omega (arith, shifted c.capped.result (omega arith), pow_pos (4 + c.capped.result)))
-    (λ c. rw (← c.capped.ensures) (mask_at _ c.capped.result (omega arith))))
+    (λ c. omega (arith, shifted c.capped-k.result (omega arith), pow_pos (4 + c.capped-k.result)))
+    (λ c. rw (← c.capped-k.ensures) (mask_at _ c.capped-k.result (omega arith))))
