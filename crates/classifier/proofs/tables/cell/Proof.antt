@@ -16,7 +16,7 @@ cast_result c = let b = row_bound c.before.before.args.i (search rules) in recor
 cast_result_2 : tie.Need-overflow_cast-result-then-i-lt4352
 cast_result_2 c = let b = column_bound (c.before.before.before.args.i - 4096) in record { fits = omega (arith, b, c.column.ensures) }
 
-cast_ctr_classify : tie.Need-overflow-cast-ctr-classify
+cast_ctr_classify : tie.Need-overflow_cast-specimen
 cast_ctr_classify c = let b = specimen_bound (c.before.before.before.args.i - 4352) (search rules) in record { fits = omega (arith, b, c.specimen.ensures) }
 
 returns : tie.Need-returns-then-i-lt4096

@@ -9,8 +9,8 @@ unfolding stack_outcome
 stack_outcome_spec =
     tie.close
     (tie.spec
-    (λ c. rw c.match.keys1)
-    (λ c. rw c.match.keys2)
-    (λ c. rw c.match.keys3)
-    (λ c. rw c.match.keys4)
+    (λ c. rw c.in-8.is)
+    (λ c. rw c.in-9.is)
+    (λ c. rw c.in-12.is)
+    (λ c. rw c.in-13.is)
     (λ c. search key_no depth 16))
