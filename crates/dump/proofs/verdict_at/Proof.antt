@@ -21,4 +21,4 @@ verdict_at_spec =
     (λ c. search rules)
     (λ c. search rules)
     (λ c κs. tt)
-    (λ c. c.verdict-of.ensures))
+    (λ c. c.verdict_of.ensures))

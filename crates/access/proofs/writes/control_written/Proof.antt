@@ -9,4 +9,4 @@ control_written_spec =
     (tie.spec
     (λ c κs. tt)
     (λ c κs. tt)
-    (λ c. rw (c.with-no-cycles.ensures, c.before.with-control.ensures) refl))
+    (λ c. rw (c.with_no_cycles.ensures, c.before.with_control.ensures) refl))

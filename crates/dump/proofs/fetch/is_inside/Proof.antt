@@ -10,5 +10,5 @@ unfolding is_inside
 is_inside_spec =
     tie.close
     (tie.spec
-    (λ c. rw (le-leb _ _ c.if1.true))
-    (λ c. rw (lt-leb _ _ c.if1.false)))
+    (λ c. rw (le-leb _ _ c.if-base-pc.true))
+    (λ c. rw (lt-leb _ _ c.if-base-pc.false)))
