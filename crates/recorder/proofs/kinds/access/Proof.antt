@@ -10,5 +10,5 @@ access_spec =
     (λ c κs. tt)
     (λ c κs. cc)
     (λ c κs. tt)
-    (λ c. c.access-good.ensures)
+    (λ c. c.access_good.ensures)
     (λ c. search bad_step))

@@ -10,5 +10,5 @@ host_spec =
     (λ c κs. tt)
     (λ c κs. cc)
     (λ c κs. tt)
-    (λ c. c.host-good.ensures)
+    (λ c. c.host_good.ensures)
     (λ c. search bad_step))

@@ -10,5 +10,5 @@ sctrclr_spec =
     (λ c κs. tt)
     (λ c κs. cc)
     (λ c κs. tt)
-    (λ c. c.sctrclr-good.ensures)
+    (λ c. c.sctrclr_good.ensures)
     (λ c. search bad_step))

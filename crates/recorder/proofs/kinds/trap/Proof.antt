@@ -10,5 +10,5 @@ trap_spec =
     (λ c κs. tt)
     (λ c κs. cc)
     (λ c κs. tt)
-    (λ c. c.trap-good.ensures)
+    (λ c. c.trap_good.ensures)
     (λ c. search bad_step))

@@ -10,5 +10,5 @@ trap_return_spec =
     (λ c κs. tt)
     (λ c κs. cc)
     (λ c κs. tt)
-    (λ c. c.trap-return-good.ensures)
+    (λ c. c.trap_return_good.ensures)
     (λ c. search bad_step))

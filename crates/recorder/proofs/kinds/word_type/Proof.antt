@@ -12,4 +12,4 @@ word_type_spec =
     (λ c κs. tt)
     (λ c κs. tt)
     (λ c κs. tt)
-    (λ c. rw (c.widened.ensures, c.before.type_number.ensures, c.before.before.classify.ensures) refl))
+    (λ c. rw (c.widened.ensures, c.before.type_number.ensures, c.before.before.classify-i.ensures) refl))

@@ -12,7 +12,7 @@ step_spec =
     (tie.spec
     (λ c κs. tt)
     (λ c.
-    let p = by_value _ _ _ _ c.before.step-in-place.ensures in
+    let p = by_value _ _ _ _ c.before.step_in_place-a.ensures in
     let start = c.before.before.before.before.before.before.before.before.before in
     let s = start.args.s in
     -- what the types of the state's fields say of them
@@ -20,8 +20,8 @@ step_spec =
       p,
       whole_after s _ _ p
           (record {
-            ctrsource = length_unmapped ℕ s.ctrsource entries typed.0.1.0.1;
-            ctrtarget = length_unmapped ℕ s.ctrtarget entries typed.1.0.1.0.1;
-            ctrdata = length_unmapped ℕ s.ctrdata entries typed.1.1.0.1.0.1;
+            ctrsource = typed.0.1.0.1;
+            ctrtarget = typed.1.0.1.0.1;
+            ctrdata = typed.1.1.0.1.0.1;
           }),
     )))
