@@ -14,7 +14,7 @@ replay_spec =
     (λ c. search rules)
     (λ c.
     let run = c.before.before.before in
-    let p = run.replay-in-place.ensures in
+    let p = run.replay_in_place-q.ensures in
     let start = run.before.before.before.before.before.before.before.before.before.before.before in
     let s = start.args.s in
     -- what the types of the state's fields say of them
@@ -22,8 +22,8 @@ replay_spec =
       p,
       whole_after s _ _ _ p
           (record {
-            ctrsource = length_unmapped ℕ s.ctrsource entries typed.0.1.0.1;
-            ctrtarget = length_unmapped ℕ s.ctrtarget entries typed.1.0.1.0.1;
-            ctrdata = length_unmapped ℕ s.ctrdata entries typed.1.1.0.1.0.1;
+            ctrsource = typed.0.1.0.1;
+            ctrtarget = typed.1.0.1.0.1;
+            ctrdata = typed.1.1.0.1.0.1;
           }),
     )))

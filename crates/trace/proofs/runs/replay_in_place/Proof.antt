@@ -9,7 +9,7 @@ replay_in_place_spec =
     tie.close
     (tie.spec
     (λ c κs. tt)
-    (λ c κs. (search rules, (search rules, c.before.before.before.before.is-good.ensures)))
+    (λ c κs. (search rules, (search rules, c.before.before.before.before.is_good-good.ensures)))
     (λ c. search seven)
     (λ c. search rules)
     (λ c. search with_room)

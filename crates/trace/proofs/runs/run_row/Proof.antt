@@ -25,4 +25,4 @@ run_row_spec =
     (λ c. search rules)
     (λ c. search rules)
     (λ c κs. search rules)
-    (λ c. c.run-words.ensures))
+    (λ c. c.run_words.ensures))
