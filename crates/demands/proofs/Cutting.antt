@@ -129,15 +129,15 @@ module _ (f : Recorder) where
 
   -- all pieces give 0, so the whole does; and back, each piece with its own part of the events
   forth : {s end : State} {ps : List Piece} {ws a b : List ℕ} {n : ℕ} → Cut ps ws a → AllZero f s ps n end b → Ran s ws a n end b
-  forth Cut.last (AllZero.more {k = k} {b = b} h AllZero.none) = rw (add-zero k, append-nil b) (ran_of_lem h refl)
-  forth (Cut.more n rows lent c) (AllZero.more h z) = together n rows lent (ran_of_lem h refl) (forth c z)
+  forth {s = s} {end = end} Cut.last (AllZero.more {k = k} {b = b} h AllZero.none) = rw (add-zero k, append-nil b) (ran_of_lem h refl)
+  forth {s = s} {end = end} (Cut.more n rows lent c) (AllZero.more {t = t} h z) = together n rows lent (ran_of_lem h refl) (forth {s = t} {end = end} c z)
 
   -- the same pieces, with the count and the answer words said another way
   said : {s end : State} {ps : List Piece} {b d : List ℕ} {k m : ℕ} → k ≡ m → b ≡ d → AllZero f s ps k end b → AllZero f s ps m end d
   said {s = s} {end = end} {ps = ps} h e z = subst₂ (λ (m : ℕ) (d : List ℕ). AllZero f s ps m end d) h e z
 
   back : {s end : State} {ps : List Piece} {ws a b : List ℕ} {k : ℕ} → Cut ps ws a → Ran s ws a k end b → AllZero f s ps k end b
-  back {b = b} {k = k} Cut.last p = said (add-zero k) (append-nil b) (AllZero.more (gives_zero p) AllZero.none)
+  back {s = s} {end = end} {b = b} {k = k} Cut.last p = said (add-zero k) (append-nil b) (AllZero.more (gives_zero p) AllZero.none)
   back {s = s} {end = end} (Cut.more {ws = ws} {vs = vs} {a = a} {b = b} n rows lent c) p =
       let q = parts ws vs n p.events rows p.rows in
       let l = q.first in
@@ -156,7 +156,7 @@ module _ (f : Recorder) where
       said
       (sym (p.count ∙ ap length q.joined ∙ length-append l m))
       (sym (p.words ∙ ap (λ (x : List Event). filled f s x (a ++ b)) q.joined ∙ filled_append s l m a b (omega (arith, q.count))))
-      (AllZero.more (gives_zero one) (back c two))
+      (AllZero.more (gives_zero one) (back {s = t} {end = end} c two))
 
   pub cutting : Cutting f
   cutting s end ps ws a b n c = ((λ z. gives_zero (forth c z)), (λ r. back c (ran_of_lem r refl)))

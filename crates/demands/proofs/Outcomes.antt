@@ -83,8 +83,8 @@ swaps_outcome {r = r} (type_12 {w = w} f m o c) =
 
 pub freezes_outcome : {r : Registers} {e : Event} → Freezes r e → outcome_in r e ≡ Freeze
 unfolding outcome_in trap_outcome trap_by
-freezes_outcome {r = r} (BPFRZ {t = t} p i c h) = rw ((traps r.mode t.mode).to p, freezes_set (BPFRZ {t = t} p i c h))
-freezes_outcome {r = r} (LCOFIFRZ {t = t} p i c h) = rw ((traps r.mode t.mode).to p, freezes_set (LCOFIFRZ {t = t} p i c h))
+freezes_outcome {r = r} (BPFRZ {t = t} p i c h) = rw ((traps r.mode t.mode).to p, freezes_set {r = r} (BPFRZ {t = t} p i c h))
+freezes_outcome {r = r} (LCOFIFRZ {t = t} p i c h) = rw ((traps r.mode t.mode).to p, freezes_set {r = r} (LCOFIFRZ {t = t} p i c h))
 
 -- and each outcome comes of its relation
 emulated : (r : Registers) (w : RetiredWord) → r.buffer.frozen ≡ false → RASEMU r (Retired w) ≡ 1 → On r r.mode

@@ -24,11 +24,11 @@ all p q name counts k h l e =
     let z : length counts ≡ k = omega arith in
     rw z e
 
-abbrev invariant_loop : tie.invariant-loop
+abbrev invariant_loop : tie.invariant-loop-k
 invariant_loop out₀ at name counts next₀ k₀ out next k =
     (k ≤ length counts) × (length out ≡ length out₀) × (page next out ≡ numbered_lines (page at out₀) name counts k)
 
-abbrev decreases_loop : tie.decreases-loop
+abbrev decreases_loop : tie.decreases-loop-k
 decreases_loop out₀ at name counts next₀ k₀ out next k = length counts - k
 
 pub put_counts_spec : {M : Type 1} → statement M

@@ -24,11 +24,11 @@ all p q r counts k h l e f =
     let z : length counts ≡ k = omega arith in
     rw (z, ← e) f
 
-abbrev invariant_loop : tie.invariant-loop
+abbrev invariant_loop : tie.invariant-loop-k
 invariant_loop out₀ at counts next₀ k₀ out next k =
     (k ≤ length counts) × (length out ≡ length out₀) × (page next out ≡ cells (page at out₀) counts k)
 
-abbrev decreases_loop : tie.decreases-loop
+abbrev decreases_loop : tie.decreases-loop-k
 decreases_loop out₀ at counts next₀ k₀ out next k = length counts - k
 
 pub put_row_spec : {M : Type 1} → statement M

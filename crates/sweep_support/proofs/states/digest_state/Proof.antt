@@ -24,11 +24,11 @@ all h r w d₀ d i f l m e =
     let z : entries ≡ i = omega arith in
     rw (← f, z) e
 
-abbrev invariant_loop : tie.invariant-loop
+abbrev invariant_loop : tie.invariant-loop-i
 invariant_loop h ctrsource ctrtarget ctrdata d₀ i₀ d i =
     (i ≤ entries) × (d ≡ with_entries d₀ (entries_of ctrsource ctrtarget ctrdata) i)
 
-abbrev decreases_loop : tie.decreases-loop
+abbrev decreases_loop : tie.decreases-loop-i
 decreases_loop h ctrsource ctrtarget ctrdata d₀ i₀ d i = entries - i
 
 pub digest_state_spec : {M : Type 1} → statement M
