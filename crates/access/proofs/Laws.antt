@@ -1,11 +1,11 @@
 -- What `Laws` and `OtherWords` state. Assumes nothing.
 use mathlib.Core.Path.{◌≡◌, refl}
-use mathlib.Core.Bool.{Bool, true, false, not, ◌&&◌}
+use mathlib.Core.Bool.{Bool, true, false}
 use mathlib.Core.Logic.{◌≢◌, inl, inr}
 use Prim.Native.Nat.{ℕ, ◌%◌, ◌≤◌, ◌<◌, min}
 use native.Mathlib.Nat.{mod-lt, mod-eq_of_lt}
 use native.Mathlib.Omega.{arith}
-use lib.Dec.{eqb, ltb}
+use lib.Dec.{ltb}
 use borrow.Author.Tests.{eq-eqb, lt-ltb, le-ltb, le-leb, eqb-false}
 use Rattle.bits.specs.Choice.{if◌then◌else◌}
 use Rattle.bits.specs.Words.{keep}
@@ -37,7 +37,7 @@ use Rattle.csr.specs.declared.Csr.TheVariants.{Control, Select, Ireg, Depth, Sta
 use Rattle.access.specs.Readings.{status_of, stored_of, word_of, is_entry, entry_reading, control_reading, reading_of}
 use Rattle.access.specs.Writes.{control_written, select_written, depth_written, status_written, registers_written, with_stored, with_word, entry_written, effect_written}
 use Rattle.access.specs.Accesses.{is_read, operand_of, write_of, operated_of, granted_of, unless_refused, access_to, access_of, sctrclr_of, host_of}
-use Rattle.access.specs.Laws.{Unchanged, entry_after, legal_entry, legal_of, Laws, OtherWords, Restarts}
+use Rattle.access.specs.Laws.{Unchanged, entry_after, legal_of, Laws, OtherWords, Restarts}
 use Rattle.machine.specs.Regs.{with_cycles, no_cycles}
 
 past : (k : ℕ) → k ≢ 0 → k ≢ 1 → k ≢ 2 → 3 ≤ k

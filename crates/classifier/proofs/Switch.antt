@@ -8,11 +8,11 @@ use native.Mathlib.Omega.{arith}
 use lib.Dec.{eqb, ltb, leb}
 use borrow.Author.Tests.{eqb-true, eqb-false, eq-eqb, ne_eqb, ltb-true, ltb-false, le-leb, lt-leb}
 use Rattle.bits.specs.Choice.{if◌then◌else◌}
-use Rattle.bits.specs.Words.{field_at, is_from_to}
+use Rattle.bits.specs.Words.{is_from_to}
 use Rattle.bits.proofs.Cases.{Known, known, both}
 use Rattle.classifier.specs.Instructions.{opcode, C·rs1, C·op, C·funct3, C·funct4, CM·funct6, CM·index, CM·funct2, CM·rlist, C·FSDSP}
 use Rattle.classifier.specs.Transfers.{is_table_jump, is_table_call, is_pop_return, plain_transfer, transfer_of, type_of}
-use Rattle.classifier.specs.Decision.{quadrant1_by, register_jump_by, pop_return_by, pop_by, switched_by, plain_decision, decision_of}
+use Rattle.classifier.specs.Decision.{register_jump_by, pop_return_by, pop_by, switched_by, plain_decision, decision_of}
 use Rattle.classifier.specs.Tables.{key_of, specimen_of}
 use Rattle.classifier.proofs.Specimens.{alike}
 use Rattle.classifier.proofs.Sorted.{Rows, rows_of, only, plainly_sorted, plainly_decided, plain_specimen}

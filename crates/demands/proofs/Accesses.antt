@@ -1,6 +1,6 @@
 -- Readings and writes of specs/Registers.antt are the definitions'; so `step_of` meets demand 2 at accesses, SCTRCLR and the host's
 -- event. Assumes nothing.
-use Prim.Native.Nat.{ℕ, zero, suc, ◌+◌, ◌-◌, ◌%◌, ◌<◌, min}
+use Prim.Native.Nat.{ℕ, zero, suc, ◌-◌, ◌%◌, ◌<◌, min}
 use mathlib.Core.Path.{◌≡◌, refl, sym, ap, ◌∙◌}
 use mathlib.Core.Bool.{Bool, true, false, false≢true}
 use native.Mathlib.Nat.{mod-eq_of_lt}
@@ -46,7 +46,7 @@ use Rattle.recorder.specs.Events.{focus_of}
 use Rattle.recorder.specs.Steps.{state_of, entries_in, applied_to, decided_of, step_of}
 use Rattle.recorder.specs.declared.State.{State}
 use Rattle.demands.specs.States.{depth, Free, cycles_to}
-use Rattle.demands.specs.Registers.{physical, selected, word, word_at, changed_at, put_at, sctrctl_in, sctrctl_to, siselect_to_in, selected_to, reading, put, written, with_zeros, with_enables}
+use Rattle.demands.specs.Registers.{physical, selected, word, word_at, changed_at, put_at, sctrctl_in, sctrctl_to, siselect_to_in, reading, put, written, with_zeros, with_enables}
 use Rattle.demands.specs.Steps.{Window, Outside}
 use Rattle.demands.specs.Demands.{GrantedAt}
 use Rattle.demands.proofs.Decides.{holds}

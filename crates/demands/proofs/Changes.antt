@@ -1,5 +1,5 @@
 -- A stored entry changes as `Accounted` says. From demands 1 and 2 alone. Assumes nothing.
-use Prim.Native.Nat.{ℕ, zero, suc, ◌+◌, ◌-◌, ◌<◌}
+use Prim.Native.Nat.{ℕ, zero, suc, ◌-◌, ◌<◌}
 use mathlib.Core.Path.{◌≡◌, refl, sym, ap, subst, ◌∙◌}
 use mathlib.Core.Bool.{Bool, true, false}
 use mathlib.Core.Logic.{◌⊎◌, inl, inr, ⊎_elim}
@@ -29,7 +29,7 @@ use Rattle.demands.specs.Registers as Registers
 use Rattle.demands.specs.Registers.{Reaches, selected, physical, changed_at, ctrsource_to, ctrtarget_to, ctrdata_to, put_at, put}
 use Rattle.demands.specs.Steps.{Asked, Window, Outside, Step1, Step2, Step3, Step4, Step5, Step6}
 use Rattle.demands.specs.Transfers.{with_record, with_pop, with_swap, with_freeze, with_move}
-use Rattle.demands.specs.Demands.{NotRefused, TransferAt, GrantedAt, Demand1At, Demand2At}
+use Rattle.demands.specs.Demands.{NotRefused, TransferAt, GrantedAt, Demand2At}
 use Rattle.demands.specs.Changes.{Writes, SelectsEntry, Cause, Accounted}
 use Rattle.demands.proofs.Decides.{holds}
 use Rattle.demands.proofs.Determined.{Upto4, upto4}

@@ -29,7 +29,7 @@ use Rattle.recorder.specs.declared.Stepped.{Stepped}
 use Rattle.demands.specs.States.{start, depth}
 use Rattle.demands.specs.Registers.{selected, physical, changed_at, ctrsource_to, ctrtarget_to, ctrdata_to, put_at, sctrctl_to, siselect_to_in, selected_to, put, written}
 use Rattle.demands.specs.Demands.{TransferAt, Demand1, Demand2, Demand2At}
-use Rattle.demands.specs.Constant.{Fixed, FixedAtReset}
+use Rattle.demands.specs.Constant.{FixedAtReset}
 use Rattle.demands.proofs.Determined.{Upto4, upto4}
 use Rattle.demands.proofs.Determined.Upto4.{is_0, is_1, is_2, is_3, is_4}
 

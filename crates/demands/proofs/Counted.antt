@@ -1,5 +1,5 @@
 -- What `Counted` states. From demands 1 and 2 alone, and the law of the coding. Assumes nothing.
-use Prim.Native.Nat.{ℕ, zero, suc, ◌+◌, ◌-◌, ◌*◌, ◌^◌, ◌≤◌, ◌<◌}
+use Prim.Native.Nat.{ℕ, zero, suc, ◌+◌, ◌-◌, ◌*◌, ◌^◌, ◌<◌}
 use mathlib.Core.Path.{◌≡◌, refl, sym, ap, subst, ◌∙◌}
 use mathlib.Core.Bool.{Bool, true, false}
 use native.Mathlib.Omega.{arith}
@@ -10,7 +10,6 @@ use Rattle.classifier.specs.Transfers.{transfer_of}
 use Rattle.machine.specs.declared.Entry.{Entry}
 use Rattle.machine.specs.declared.Registers.{Registers}
 use Rattle.machine.specs.declared.Event.{Event}
-use Rattle.machine.specs.declared.Event.TheVariants.{Retired, Trap, TrapReturn, Access, Sctrclr, Host}
 use Rattle.transfers.specs.Counts.{exponent_of, mantissa_of, decoded_of}
 use Rattle.transfers.specs.Laws.{Coding}
 use Rattle.transfers.proofs.CountLaws.{coding}
@@ -18,7 +17,6 @@ use Rattle.recorder.specs.Entries.{entry_at}
 use Rattle.recorder.specs.Steps.{entries_in}
 use Rattle.recorder.specs.declared.State.{State}
 use Rattle.recorder.specs.declared.Stepped.{Stepped}
-use Rattle.demands.specs.States.{Free}
 use Rattle.demands.specs.Counts.{CCE, CCM, decoded}
 use Rattle.demands.specs.Transfers.{RASEMU, counter, ctrdata_of, record_of, with_record, Qualifies}
 use Rattle.demands.specs.Transfers.Qualifies.{retired, on_to_on, off_to_on, on_to_off, return, call}

@@ -1,23 +1,22 @@
 -- The cycle counter and the count of a record, by the definitions and by the rules of specs/. Assumes nothing.
 use Prim.Native.Nat.{ℕ, zero, suc, ◌+◌, ◌-◌, ◌*◌, ◌/◌, ◌%◌, ◌^◌, ◌≤◌, ◌<◌, min}
-use mathlib.Core.Path.{◌≡◌, refl, sym, ap, subst, ◌∙◌}
+use mathlib.Core.Path.{◌≡◌, refl, ap, subst, ◌∙◌}
 use mathlib.Core.Bool.{Bool, true, false, not, ◌&&◌}
 use mathlib.Core.Logic.{◌⊎◌, inl, inr, ⊎_elim}
-use native.Mathlib.Nat.{mod-lt, mod-eq_of_lt, div-eq_of_lt}
+use native.Mathlib.Nat.{div-eq_of_lt}
 use native.Mathlib.Omega.{arith}
 use lib.Dec.{eqb, ltb}
-use lib.Pow.{pow_pos, pow_mono, pow-add, shr_lt, shr_mono, shl-shr}
-use borrow.Author.Tests.{eqb-true, eqb-false, ltb-true, ltb-false, eq-eqb, ne_eqb}
+use lib.Pow.{shr_lt, shr_mono, shl-shr}
+use borrow.Author.Tests.{eqb-true, eqb-false, ltb-false}
 use Rattle.bits.specs.Choice.{if◌then◌else◌}
 use Rattle.bits.specs.Words.{bit_at, field_at}
 use Rattle.machine.specs.Modes.{on_of}
-use Rattle.machine.specs.Regs.{with_cycles, no_cycles}
+use Rattle.machine.specs.Regs.{with_cycles}
 use Rattle.machine.specs.declared.Cycles.{Cycles}
 use Rattle.machine.specs.declared.Entry.{Entry}
 use Rattle.machine.specs.declared.Mode.{Mode}
 use Rattle.machine.specs.declared.Registers.{Registers}
 use Rattle.machine.specs.declared.Event.{Event}
-use Rattle.machine.specs.declared.Event.TheVariants.{Retired, Trap, TrapReturn, Access, Sctrclr, Host}
 use Rattle.qualifying.specs.Outcomes.{rasemu_of, live_of}
 use Rattle.transfers.specs.Counts as Counts
 use Rattle.transfers.specs.Counts.{exponent_of, mantissa_of, cc_of, tallied, stamped}
@@ -25,7 +24,7 @@ use Rattle.transfers.specs.Records.{entry_for}
 use Rattle.transfers.proofs.CountLaws.{top, powers_lt}
 use Rattle.demands.specs.States.{Free}
 use Rattle.demands.specs.Counts.{top_bit, CCE, CCM}
-use Rattle.demands.specs.Transfers.{switch, mode_after, RASEMU, Qualifies, Swaps, Pops, cycles_of, counts, counter, counted, restarted, ctrdata_of, MISP, entry_of}
+use Rattle.demands.specs.Transfers.{switch, mode_after, RASEMU, Qualifies, Swaps, cycles_of, counts, counter, counted, restarted, ctrdata_of, MISP, entry_of}
 use Rattle.demands.specs.Transfers.Qualifies.{retired, on_to_on, off_to_on, on_to_off, return, call}
 use Rattle.demands.specs.Transfers.Swaps.{type_12}
 use Rattle.demands.specs.Rows.{flag}

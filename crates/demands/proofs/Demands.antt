@@ -1,8 +1,7 @@
 -- The definition `step_of` meets demands 1 and 2, and nothing else does. Assumes nothing.
 use Prim.Native.Nat.{ℕ, ◌+◌, ◌-◌, ◌%◌, ◌≤◌, ◌<◌}
 use mathlib.Core.Path.{◌≡◌, refl, sym, ap, ◌∙◌}
-use mathlib.Core.Bool.{Bool}
-use mathlib.Core.Logic.{◌⊎◌, ⊎_elim}
+use mathlib.Core.Logic.{⊎_elim}
 use native.Mathlib.Nat.{mod-lt, mod-eq_of_lt, mod-add-mod, add-mod_right, mod-eq-sub-mod}
 use native.Mathlib.Omega.{arith}
 use borrow.Author.Tests.{lt-ltb, le-ltb}
@@ -15,7 +14,6 @@ use Rattle.recorder.specs.Steps.{entries_in, step_of, reset_state}
 use Rattle.machine.specs.declared.Event.{Event}
 use Rattle.machine.specs.declared.Event.TheVariants.{Retired, Trap, TrapReturn, Access, Sctrclr, Host}
 use Rattle.recorder.specs.declared.State.{State}
-use Rattle.recorder.specs.declared.Stepped.{Stepped}
 use Rattle.demands.specs.States.{depth, Free}
 use Rattle.demands.specs.Registers.{Reaches, selected, physical, Logical, word, word_at, reading}
 use Rattle.demands.specs.Demands.{Demand2At, Demand2, Shows, OnlyRecorder}

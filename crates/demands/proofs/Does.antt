@@ -13,7 +13,7 @@ use Rattle.machine.specs.declared.Registers.{Registers}
 use Rattle.machine.specs.declared.RetiredWord.{RetiredWord}
 use Rattle.machine.specs.declared.TrapTo.{TrapTo}
 use Rattle.machine.specs.declared.ReturnTo.{ReturnTo}
-use Rattle.qualifying.specs.Outcomes.{retired_outcome, trap_by, trap_outcome, return_by, return_outcome, rasemu_of}
+use Rattle.qualifying.specs.Outcomes.{retired_outcome, trap_outcome, return_outcome, rasemu_of}
 use Rattle.transfers.specs.Records as Records
 use Rattle.transfers.specs.Records.{entry_for, advanced, retreated}
 use Rattle.transfers.specs.Transfers as Done

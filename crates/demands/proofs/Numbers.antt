@@ -2,7 +2,7 @@
 use Prim.Native.Nat.{ℕ, zero, suc, ◌≤◌}
 use mathlib.Core.Path.{◌≡◌, refl, sym, ap, ◌∙◌}
 use mathlib.Core.Bool.{Bool, true, false}
-use mathlib.Core.Logic.{◌⊎◌, ⊎_elim, ◌↔◌}
+use mathlib.Core.Logic.{⊎_elim, ◌↔◌}
 use native.Mathlib.Omega.{arith}
 use borrow.Author.Tests.{eqb-false}
 use Rattle.bits.specs.Choice.{if◌then◌else◌}
@@ -20,7 +20,6 @@ use Rattle.csr.proofs.Refusals.{refusals}
 use Rattle.access.specs.Accesses.{access_of, sctrclr_of, host_of}
 use Rattle.access.specs.Laws.{Unchanged}
 use Rattle.access.proofs.Laws.{laws}
-use Rattle.qualifying.specs.Changes.{possible_trap, possible_return}
 use Rattle.transfers.specs.Transfers.{done_of, retired_of, taken_trap, trap_of, taken_return, return_of, crossed_of}
 use Rattle.machine.specs.declared.Outcome.{Outcome}
 use Rattle.machine.specs.declared.Outcome.TheVariants.{Nothing, Record, Pop, Swap, Freeze}
@@ -34,7 +33,7 @@ use Rattle.machine.specs.declared.Event.TheVariants.{Retired, Trap, TrapReturn, 
 use Rattle.recorder.specs.declared.State.{State}
 use Rattle.demands.specs.States.{Free, Impossible}
 use Rattle.demands.specs.Demands.{NotRefused, Demand1}
-use Rattle.demands.proofs.Decides.{Decides, no, negated}
+use Rattle.demands.proofs.Decides.{Decides, no}
 use Rattle.demands.proofs.Free.{free}
 use Rattle.demands.proofs.Steps.{step_number, step_numbers}
 use Rattle.demands.proofs.Tests.{traps, returns}

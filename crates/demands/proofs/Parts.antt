@@ -1,7 +1,6 @@
 -- What `Parts` states. Assumes nothing.
 use Prim.Native.Nat.{ℕ, ◌<◌}
 use mathlib.Core.Path.{◌≡◌, refl, sym, subst}
-use lib.ListN.{length}
 use lib.Seq.{get_or-set_same, get_or-set_other}
 use Rattle.machine.specs.declared.Entry.{Entry}
 use Rattle.recorder.specs.Entries.{Entries, entry_at, with_entry}

@@ -17,7 +17,6 @@ use Rattle.trace.specs.Rows.{row_of}
 use Rattle.trace.specs.Runs.{is_well_formed, leading, Replay, unrun, ran_of, replay_of}
 use Rattle.trace.specs.declared.Replayed.{Replayed}
 use Rattle.trace.specs.declared.Row.{Row}
-use Rattle.trace.specs.declared.Row.TheVariants as Row
 use Rattle.demands.specs.Rows.{Words, words, words_of, Fits, RowOf, Malformed, rows_of, AllFit, EveryRow}
 use Rattle.demands.specs.Replays.{filled, Rows, Room, WellFormedRows, StopsAfter, Replays, Numbers, OnlyReplay}
 use Rattle.demands.specs.Replays.Replays.{six, seven, nine, whole}

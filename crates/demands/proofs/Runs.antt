@@ -15,7 +15,6 @@ use Rattle.recorder.specs.declared.State.{State}
 use Rattle.trace.specs.Rows.{row_of}
 use Rattle.trace.specs.Runs.{row_at, leading, answered, next, run_of}
 use Rattle.trace.specs.declared.Row.{Row}
-use Rattle.trace.specs.declared.Row.TheVariants as Row
 use Rattle.demands.specs.Rows.{words, words_of, Fits, Malformed, rows_of, AllFit, EveryRow}
 use Rattle.demands.specs.Replays.{answer_words, filled, Room}
 

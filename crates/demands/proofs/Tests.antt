@@ -1,6 +1,6 @@
 -- The definitions' tests are what the rules of specs/ say: switches, mode changes, inhibits, external bits, freezing, places.
 -- Assumes nothing.
-use Prim.Native.Nat.{ℕ, zero, suc, ◌+◌, ◌-◌, ◌%◌, ◌≤◌, ◌<◌, min}
+use Prim.Native.Nat.{ℕ, zero, suc, ◌-◌, ◌%◌, ◌≤◌, ◌<◌, min}
 use mathlib.Core.Path.{◌≡◌, refl, sym, ap, ◌∙◌}
 use mathlib.Core.Bool.{Bool, true, false, ◌&&◌, false≢true}
 use native.Mathlib.Nat.{mod-eq_of_lt, mod-add-mod}
@@ -10,7 +10,6 @@ use lib.ListN.{length, get_or, get_or-eq_default}
 use borrow.Author.Tests.{eqb-true, ltb-true, ltb-false, not-false}
 use Rattle.bits.proofs.Cases.{passed}
 use Rattle.bits.specs.Choice.{if◌then◌else◌}
-use Rattle.bits.specs.Words.{bit_at}
 use Rattle.classifier.specs.Transfers.{type_of}
 use Rattle.classifier.specs.declared.Transfer.{Transfer}
 use Rattle.classifier.specs.declared.Transfer.TheVariants.{None, Branch, IndirectCall, DirectCall, IndirectJump, DirectJump, CoroutineSwap, FunctionReturn, OtherIndirectJump, OtherDirectJump}

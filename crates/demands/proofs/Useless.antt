@@ -9,7 +9,6 @@ use Rattle.recorder.specs.declared.State.{State}
 use Prim.Native.Nat.{ℕ}
 use Rattle.demands.specs.States.{depth}
 use Rattle.demands.specs.Demands.{Demand2}
-use Rattle.demands.specs.Transfers.{with_record}
 use Rattle.demands.specs.Useless.{Useless}
 use Rattle.demands.proofs.Computed.{fresh, word, call, host, later, Shown, computed}
 use Rattle.demands.proofs.Demands.{only_recorder}

@@ -4,7 +4,7 @@ use mathlib.Core.Bool.{Bool, true, false, ◌&&◌}
 use Prim.Native.Nat.{ℕ}
 use Rattle.classifier.specs.Instructions.{CM·funct6, CM·index, CM·funct2, CM·rlist, C·FSDSP}
 use Rattle.classifier.specs.Transfers.{plain_transfer, transfer_of}
-use Rattle.classifier.specs.Decision.{switched_by, plain_decision, decision_of}
+use Rattle.classifier.specs.Decision.{switched_by, decision_of}
 use Rattle.classifier.specs.declared.Transfer.{Transfer}
 use Rattle.classifier.proofs.Sorted.{plainly_decided}
 use Rattle.classifier.proofs.Switch.{decided}

@@ -1,7 +1,4 @@
 -- `recorder::steps::step` meets its contract. Assumes nothing.
-use Prim.Native.Nat.{ℕ}
-use borrow.Author.Rules.{length_unmapped}
-use Rattle.recorder.specs.Entries.{entries}
 use Rattle.recorder.proofs.Laws.{by_value, whole_after}
 use Rattle.recorder.proofs.steps.step.Statement.{statement}
 use Rattle.recorder.proofs.steps.step.Tie as tie

@@ -3,7 +3,6 @@ use mathlib.Core.Path.{◌≡◌, refl}
 use Prim.Native.Nat.{ℕ, ◌+◌, ◌-◌, ◌≤◌}
 use native.Mathlib.Numerals.{add-one}
 use native.Mathlib.Omega.{arith}
-use Rattle.machine.specs.declared.Entry.{Entry}
 use Rattle.machine.specs.declared.Registers.{Registers}
 use Rattle.recorder.specs.Entries.{entries, Entries, entries_of, entry_at}
 use Rattle.sweep_support.specs.Digests.{with_entry, with_registers, with_entries, with_state}

@@ -1,7 +1,5 @@
 -- `trace::runs::replay` meets its contract. Assumes nothing.
-use Prim.Native.Nat.{ℕ}
-use borrow.Author.Rules.{rules, length_unmapped}
-use Rattle.recorder.specs.Entries.{entries}
+use borrow.Author.Rules.{rules}
 use Rattle.trace.proofs.RunLaws.{whole_after}
 use Rattle.trace.proofs.runs.replay.Statement.{statement}
 use Rattle.trace.proofs.runs.replay.Tie as tie

@@ -1,7 +1,6 @@
 -- `transfers::counts::cc` meets its contract. Assumes nothing.
 use Rattle.transfers.proofs.CountLaws.{short_cc}
 use borrow.Author.Rules.{rules}
-use native.Mathlib.Omega.{arith}
 use Rattle.transfers.proofs.counts.cc.Statement.{statement}
 use Rattle.transfers.proofs.counts.cc.Tie as tie
 
