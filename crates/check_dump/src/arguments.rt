@@ -1,6 +1,8 @@
 // The arguments: flags, and how each is read.
 use crate::files::Filled;
 use crate::problems;
+use console::Complain;
+use std::env::Env;
 use text::is_same;
 
 // What an argument before the operands is.
@@ -23,20 +25,27 @@ pub(crate) struct Options {
 }
 
 // Argument i. One that the buffer has no room for is told.
-pub(crate) fn read(i: usize, buffer: &mut [u8]) -> Filled {
-    let count = os::arg(i, buffer);
-    let is_whole = os::errno() == 0;
-    if !is_whole {
-        os::fail(b"check_dump: an argument");
+pub(crate) fn read(rt: &(impl Env + Complain), i: usize, buffer: &mut [u8]) -> Filled {
+    match console::arg(rt, i, buffer) {
+        Ok(count) => Filled {
+            count,
+            is_whole: true,
+        },
+        Err(error) => {
+            console::fail(rt, b"check_dump: an argument", error);
+            Filled {
+                count: 0,
+                is_whole: false,
+            }
+        }
     }
-    Filled { count, is_whole }
 }
 
-pub(crate) fn unexpected(i: usize) {
-    let mut buffer = io::buffer();
-    let argument = read(i, &mut buffer);
+pub(crate) fn unexpected(rt: &(impl Env + Complain), i: usize) {
+    let mut buffer = console::buffer();
+    let argument = read(rt, i, &mut buffer);
     if argument.is_whole {
-        problems::unexpected(text::before(&buffer, argument.count));
+        problems::unexpected(rt, text::before(&buffer, argument.count));
     }
 }
 
@@ -57,14 +66,14 @@ fn flag_of(argument: &[u8]) -> Flag {
 }
 
 // The options with argument i read. One that is no flag ends them.
-fn with_argument(o: Options, i: usize, argument: &[u8]) -> Options {
+fn with_argument(rt: &impl Complain, o: Options, i: usize, argument: &[u8]) -> Options {
     let mut next = o;
     match flag_of(argument) {
         Flag::None => next.first = i,
         Flag::Zc => next.zc = true,
         Flag::Help => next.help = true,
         Flag::Unknown => {
-            problems::unknown_flag(argument);
+            problems::unknown_flag(rt, argument);
             next.is_valid = false;
         }
     }
@@ -77,18 +86,18 @@ fn invalid(o: Options) -> Options {
     next
 }
 
-fn read_flag(o: Options, i: usize) -> Options {
-    let mut buffer = io::buffer();
-    let argument = read(i, &mut buffer);
+fn read_flag(rt: &(impl Env + Complain), o: Options, i: usize) -> Options {
+    let mut buffer = console::buffer();
+    let argument = read(rt, i, &mut buffer);
     if argument.is_whole {
-        with_argument(o, i, text::before(&buffer, argument.count))
+        with_argument(rt, o, i, text::before(&buffer, argument.count))
     } else {
         invalid(o)
     }
 }
 
 // All flags, up to one that asks for usage or is unknown.
-pub(crate) fn read_flags(count: usize) -> Options {
+pub(crate) fn read_flags(rt: &(impl Env + Complain), count: usize) -> Options {
     let mut o = Options {
         zc: false,
         help: false,
@@ -97,7 +106,7 @@ pub(crate) fn read_flags(count: usize) -> Options {
     };
     let mut i = 1;
     while i < count && o.first == count && o.is_valid && !o.help {
-        o = read_flag(o, i);
+        o = read_flag(rt, o, i);
         i += 1;
     }
     o

@@ -11,37 +11,39 @@ mod report;
 mod words;
 
 use arguments::unexpected;
-use libc::STDOUT_FILENO;
+use console::Complain;
+use std::env::Env;
+use std::fs::Files;
 
-fn print_usage() {
-    io::write_all(
-        STDOUT_FILENO,
+fn print_usage(rt: &impl Print) {
+    console::print(
+        rt,
         b"usage: check_dump [--zc] IMAGE BASE DUMP\nChecks a dump of entries against firmware: accepted if every valid entry fits, else the first that does not, and why.\n  --zc  with table jumps and pop-returns (Zcmt and Zcmp) switched on\nIMAGE is a file of code, at most 4194304 bytes, and BASE the address of its first byte, in hex with 0x or in decimal. DUMP is a file of little-endian 64-bit words, ctrsource, ctrtarget and ctrdata of each entry, newest first, at most 4096 entries.\n",
     );
 }
 
 // What the operands ask for, the arguments from the first on that is no flag.
-fn run(first: usize, count: usize, zc: bool) {
+fn run(rt: &(impl Files + Env + Print + Complain), first: usize, count: usize, zc: bool) {
     if first >= count {
-        problems::missing(b"image");
+        problems::missing(rt, b"image");
     } else {
         match count - first {
-            1 => problems::missing(b"base"),
-            2 => problems::missing(b"dump"),
-            3 => checks::run(first, first + 1, first + 2, zc),
-            _ => unexpected(first + 3),
+            1 => problems::missing(rt, b"base"),
+            2 => problems::missing(rt, b"dump"),
+            3 => checks::run(rt, first, first + 1, first + 2, zc),
+            _ => unexpected(rt, first + 3),
         }
     }
 }
 
-fn main() {
-    let count = os::arg_count();
-    let o = arguments::read_flags(count);
+fn main(rt: HostRuntime) {
+    let count = console::arg_count(&rt);
+    let o = arguments::read_flags(&rt, count);
     if o.is_valid {
         if count < 2 || o.help {
-            print_usage();
+            print_usage(&rt);
         } else {
-            run(o.first, count, o.zc);
+            run(&rt, o.first, count, o.zc);
         }
     }
 }

@@ -1,5 +1,6 @@
 // What goes wrong, a line on standard error each.
-use libc::STDERR_FILENO;
+use console::Complain;
+use std::io;
 
 // Room for the longest argument, and for words beside it.
 const LONGEST: usize = 8192;
@@ -10,14 +11,14 @@ fn put_file(line: &mut [u8], name: &[u8]) -> usize {
 }
 
 // A file that can't be opened or read: the system's words say why.
-pub(crate) fn unreadable(name: &[u8]) {
+pub(crate) fn unreadable(rt: &impl Complain, name: &[u8], error: io::Error) {
     let mut line = [0u8; LONGEST];
     let at = put_file(&mut line, name);
-    os::fail(text::before(&line, at));
+    console::fail(rt, text::before(&line, at), error);
 }
 
-fn write_line(line: &[u8], at: usize) {
-    io::write_all(STDERR_FILENO, text::before(line, at));
+fn write_line(rt: &impl Complain, line: &[u8], at: usize) {
+    console::tell(rt, text::before(line, at));
 }
 
 // Words, and a number after them.
@@ -26,12 +27,12 @@ fn put_number(line: &mut [u8], at: usize, words: &[u8], n: u64) -> usize {
     text::put_decimal(line, next, n)
 }
 
-pub(crate) fn too_large(name: &[u8], most: u64) {
+pub(crate) fn too_large(rt: &impl Complain, name: &[u8], most: u64) {
     let mut line = [0u8; LONGEST];
     let mut at = put_file(&mut line, name);
     at = put_number(&mut line, at, b": more than ", most);
     at = text::put(&mut line, at, b" bytes\n");
-    write_line(&line, at);
+    write_line(rt, &line, at);
 }
 
 // Where the bytes that are no whole word lie.
@@ -53,35 +54,40 @@ fn put_bytes(line: &mut [u8], at: usize, count: u64) -> usize {
     }
 }
 
-pub(crate) fn left_over(name: &[u8], count: u64, words: u64) {
+pub(crate) fn left_over(rt: &impl Complain, name: &[u8], count: u64, words: u64) {
     let mut line = [0u8; LONGEST];
     let mut at = put_file(&mut line, name);
     at = put_bytes(&mut line, at, count);
     at = put_where(&mut line, at, words);
-    write_line(&line, at);
+    write_line(rt, &line, at);
 }
 
 // An argument between words.
-fn tell(before: &[u8], argument: &[u8], after: &[u8]) {
+fn tell(rt: &impl Complain, before: &[u8], argument: &[u8], after: &[u8]) {
     let mut line = [0u8; LONGEST];
     let mut at = text::put(&mut line, 0, before);
     at = text::put(&mut line, at, argument);
     at = text::put(&mut line, at, after);
-    write_line(&line, at);
+    write_line(rt, &line, at);
 }
 
-pub(crate) fn unknown_flag(flag: &[u8]) {
-    tell(b"check_dump: unknown flag ", flag, b"\n");
+pub(crate) fn unknown_flag(rt: &impl Complain, flag: &[u8]) {
+    tell(rt, b"check_dump: unknown flag ", flag, b"\n");
 }
 
-pub(crate) fn missing(operand: &[u8]) {
-    tell(b"check_dump: no ", operand, b" given\n");
+pub(crate) fn missing(rt: &impl Complain, operand: &[u8]) {
+    tell(rt, b"check_dump: no ", operand, b" given\n");
 }
 
-pub(crate) fn unexpected(argument: &[u8]) {
-    tell(b"check_dump: unexpected argument ", argument, b"\n");
+pub(crate) fn unexpected(rt: &impl Complain, argument: &[u8]) {
+    tell(rt, b"check_dump: unexpected argument ", argument, b"\n");
 }
 
-pub(crate) fn no_number(base: &[u8]) {
-    tell(b"check_dump: base ", base, b" is no number below 2^64\n");
+pub(crate) fn no_number(rt: &impl Complain, base: &[u8]) {
+    tell(
+        rt,
+        b"check_dump: base ",
+        base,
+        b" is no number below 2^64\n",
+    );
 }

@@ -1,7 +1,7 @@
 // The line of a check on standard output.
+use console::Complain;
 use dump::{Checked, Reason};
 use history::put_path;
-use libc::STDOUT_FILENO;
 
 // Room for the longest line.
 const LONGEST: usize = 256;
@@ -53,11 +53,11 @@ fn put_checked(out: &mut [u8], c: Checked, entries: &[u64]) -> usize {
     }
 }
 
-pub(crate) fn print(c: Checked, entries: &[u64]) {
+pub(crate) fn print(rt: &(impl Print + Complain), c: Checked, entries: &[u64]) {
     let mut out = [0u8; LONGEST];
     let mut at = put_checked(&mut out, c, entries);
     at = text::put_byte(&mut out, at, b'\n');
-    if !io::write_all(STDOUT_FILENO, text::before(&out, at)) {
-        os::fail(b"check_dump: standard output");
+    if let Err(error) = rt.write_all(text::before(&out, at)) {
+        console::fail(rt, b"check_dump: standard output", error);
     }
 }

@@ -4,7 +4,10 @@
 
 ghost use Rattle.std.specs.Prelude.{◌+◌, ◌*◌, ◌≤◌, ◌<◌, length};
 
-use libc::{STDERR_FILENO, STDIN_FILENO, STDOUT_FILENO};
+use console::Complain;
+use std::env::Env;
+use std::io;
+use std::io::Read;
 use text::is_same;
 
 // No line is longer than 32 bytes, so a buffer of 65,536 has room for one more up to here.
@@ -22,13 +25,6 @@ struct Options {
     zc: bool,
     help: bool,
     is_known: bool,
-}
-
-// What was read: how many bytes, and whether a read failed.
-#[derive(Drop)]
-struct Block {
-    count: usize,
-    failed: bool,
 }
 
 fn put_name(out: &mut [u8], at: usize, number: u8) -> usize {
@@ -82,76 +78,57 @@ fn take_words(input: &[u8], words: &mut [u32]) -> usize
     i
 }
 
-// Prints the lines of words with their types, and says whether they were written.
-fn print_lines(words: &[u32], types: &[u8], out: &mut [u8]) -> bool {
+// Prints the lines of words with their types, or says why they could not be written.
+fn print_lines(rt: &impl Print, words: &[u32], types: &[u8], out: &mut [u8]) -> io::Result<()> {
     let mut at = 0;
     let mut i = 0;
     while i < words.len() && i < types.len() {
         at = put_line(out, at, words[i], types[i]);
         if at > LAST_START {
-            if !io::write_all(STDOUT_FILENO, text::before(out, at)) {
-                return false;
-            }
+            rt.write_all(text::before(out, at))?;
             at = 0;
         }
         i += 1;
     }
-    io::write_all(STDOUT_FILENO, text::before(out, at))
+    rt.write_all(text::before(out, at))
 }
 
-// Prints the lines of all whole words, and says whether they were written.
+// Prints the lines of all whole words, or says why they could not be written.
 fn print_words(
+    rt: &impl Print,
     input: &[u8],
     words: &mut [u32],
     types: &mut [u8],
     out: &mut [u8],
     zc: bool,
-) -> bool {
+) -> io::Result<()> {
     let count = take_words(input, words);
     let whole = &words[..count];
     classifier::exports::ctr_classify_all(whole, zc, types);
-    print_lines(whole, types, out)
-}
-
-// Reads until the buffer is full, the input ends or a read fails.
-fn read_block(input: &mut [u8]) -> Block {
-    let mut count = 0;
-    while count < input.len() {
-        let got = libc::read(STDIN_FILENO, &mut input[count..]);
-        let more = io::count(got, &input[count..]);
-        if more == 0 {
-            return Block {
-                count,
-                failed: got < 0,
-            };
-        }
-        count += more;
-    }
-    Block {
-        count,
-        failed: false,
-    }
+    print_lines(rt, whole, types, out)
 }
 
 // Reads a block and prints its lines. Says whether there may be more to read.
 fn print_block(
+    rt: &(impl Print + Complain),
+    from: &mut impl Read,
     input: &mut [u8],
     words: &mut [u32],
     types: &mut [u8],
     out: &mut [u8],
     zc: bool,
 ) -> bool {
-    let block = read_block(input);
+    let block = console::fill(from, input);
     let count = block.count;
-    if !print_words(text::before(input, count), words, types, out, zc) {
-        os::fail(b"classify: standard output");
+    if let Err(error) = print_words(rt, text::before(input, count), words, types, out, zc) {
+        console::fail(rt, b"classify: standard output", error);
         return false;
     }
     if count % 4 != 0 {
-        io::write_all(STDOUT_FILENO, b"incomplete word\n");
+        console::print(rt, b"incomplete word\n");
     }
-    if block.failed {
-        os::fail(b"classify: standard input");
+    if let Some(error) = block.error {
+        console::fail(rt, b"classify: standard input", error);
         return false;
     }
     count == input.len()
@@ -159,47 +136,53 @@ fn print_block(
 
 // A proved loop has to end, and nothing says that the input does: the count of blocks is one that no
 // run uses up.
-fn print_all(zc: bool) {
-    let mut input = io::large_buffer();
+fn print_all(rt: &(impl Print + Complain + Input), zc: bool) {
+    let mut from = rt.reader();
+    let mut input = console::large_buffer();
     let mut words = [0; WORDS];
     let mut types = [0; WORDS];
-    let mut out = io::large_buffer();
+    let mut out = console::large_buffer();
     let mut blocks = u64::MAX;
-    while blocks > 0 && print_block(&mut input, &mut words, &mut types, &mut out, zc) {
+    while blocks > 0
+        && print_block(
+            rt, &mut from, &mut input, &mut words, &mut types, &mut out, zc,
+        )
+    {
         blocks -= 1;
     }
 }
 
-fn tell_unknown(argument: &[u8]) {
+fn tell_unknown(rt: &impl Complain, argument: &[u8]) {
     let mut line = [0u8; LONGEST];
     let mut at = text::put(&mut line, 0, b"classify: unknown argument ");
     at = text::put(&mut line, at, argument);
     at = text::put_byte(&mut line, at, b'\n');
-    io::write_all(STDERR_FILENO, text::before(&line, at));
+    console::tell(rt, text::before(&line, at));
 }
 
 // The options with one argument read.
-fn with_argument(o: Options, argument: &[u8]) -> Options {
+fn with_argument(rt: &impl Complain, o: Options, argument: &[u8]) -> Options {
     let mut next = o;
     if is_same(argument, b"--zc") {
         next.zc = true;
     } else if is_same(argument, b"--help") {
         next.help = true;
     } else {
-        tell_unknown(argument);
+        tell_unknown(rt, argument);
         next.is_known = false;
     }
     next
 }
 
-fn read_argument(o: Options, i: usize) -> Options {
-    let mut buffer = io::buffer();
-    let length = os::arg(i, &mut buffer);
-    with_argument(o, text::before(&buffer, length))
+// One that is too long is read as an empty one.
+fn read_argument(rt: &(impl Env + Complain), o: Options, i: usize) -> Options {
+    let mut buffer = console::buffer();
+    let length = console::arg(rt, i, &mut buffer).unwrap_or(0);
+    with_argument(rt, o, text::before(&buffer, length))
 }
 
 // All arguments, up to one that is unknown or asks for usage.
-fn read_options(count: usize) -> Options {
+fn read_options(rt: &(impl Env + Complain), count: usize) -> Options {
     let mut o = Options {
         zc: false,
         help: false,
@@ -207,24 +190,24 @@ fn read_options(count: usize) -> Options {
     };
     let mut i = 1;
     while i < count && o.is_known && !o.help {
-        o = read_argument(o, i);
+        o = read_argument(rt, o, i);
         i += 1;
     }
     o
 }
 
-fn print_usage() {
-    io::write_all(
-        STDOUT_FILENO,
+fn print_usage(rt: &impl Print) {
+    console::print(
+        rt,
         b"usage: classify [--zc] <WORDS\nPrints a line for each instruction word: the word, the number of its transfer type (a branch as taken) and the type's name.\n  --zc  with table jumps and pop-returns (Zcmt and Zcmp) switched on\nThe words are little-endian, 32 bits each, a 16-bit instruction in the low half.\n",
     );
 }
 
-fn main() {
-    let o = read_options(os::arg_count());
+fn main(rt: HostRuntime) {
+    let o = read_options(&rt, console::arg_count(&rt));
     if o.help {
-        print_usage();
+        print_usage(&rt);
     } else if o.is_known {
-        print_all(o.zc);
+        print_all(&rt, o.zc);
     }
 }
