@@ -3,7 +3,6 @@
 // answers, registers and entries. The gate compares it with what the model prints.
 #![tactic(auto)]
 
-use libc::STDOUT_FILENO;
 use machine::answers::{number_index, refuse};
 use machine::controls::{MCTRCTL_MASK, SCTRCTL_MASK};
 use machine::regs::{
@@ -304,7 +303,7 @@ fn swept(mode: Mode) -> Run {
     run
 }
 
-fn report_mode(name: &[u8], mode: Mode) {
+fn report_mode(rt: &impl Print, name: &[u8], mode: Mode) {
     let run = swept(mode);
     let mut out = [0u8; 1024];
     let mut at = text::put(&mut out, 0, name);
@@ -313,7 +312,7 @@ fn report_mode(name: &[u8], mode: Mode) {
     at = put_word(&mut out, at, b"  answers 0x", run.answers);
     at = put_word(&mut out, at, b"  registers 0x", run.registers);
     at = put_word(&mut out, at, b"  entries 0x", run.entries);
-    io::write_all(STDOUT_FILENO, text::before(&out, at));
+    console::print(rt, text::before(&out, at));
 }
 
 // The places of all logical entries under one WRPTR.
@@ -340,24 +339,24 @@ fn all_places(code: u64) -> u64 {
     next
 }
 
-fn report_depth(code: u64) {
+fn report_depth(rt: &impl Print, code: u64) {
     let mut out = [0u8; 64];
     let mut at = text::put(&mut out, 0, b"  depth ");
     at = text::put_decimal(&mut out, at, machine::depths::depth(code));
     at = put_word(&mut out, at, b" 0x", all_places(code));
-    io::write_all(STDOUT_FILENO, text::before(&out, at));
+    console::print(rt, text::before(&out, at));
 }
 
-fn main() {
-    report_mode(b"mode U\n", Mode::U);
-    report_mode(b"mode S\n", Mode::S);
-    report_mode(b"mode M\n", Mode::M);
-    report_mode(b"mode VU\n", Mode::VU);
-    report_mode(b"mode VS\n", Mode::VS);
-    io::write_all(STDOUT_FILENO, b"logical entries\n");
-    report_depth(0);
-    report_depth(1);
-    report_depth(2);
-    report_depth(3);
-    report_depth(4);
+fn main(rt: HostRuntime) {
+    report_mode(&rt, b"mode U\n", Mode::U);
+    report_mode(&rt, b"mode S\n", Mode::S);
+    report_mode(&rt, b"mode M\n", Mode::M);
+    report_mode(&rt, b"mode VU\n", Mode::VU);
+    report_mode(&rt, b"mode VS\n", Mode::VS);
+    console::print(&rt, b"logical entries\n");
+    report_depth(&rt, 0);
+    report_depth(&rt, 1);
+    report_depth(&rt, 2);
+    report_depth(&rt, 3);
+    report_depth(&rt, 4);
 }

@@ -4,7 +4,6 @@
 #![tactic(auto)]
 
 use classifier::exports::{ctr_classify, ctr_classify_all, ctr_length};
-use libc::STDOUT_FILENO;
 use std::num::{wrapping_add_u32, wrapping_add_u64, wrapping_sub_u64};
 use test_support::{SEED, digest, xorshift64};
 
@@ -187,7 +186,7 @@ fn put_switch(out: &mut [u8], at: usize, zc: bool) -> usize {
     }
 }
 
-fn report(name: &[u8], zc: bool, t: Tally) {
+fn report(rt: &impl Print, name: &[u8], zc: bool, t: Tally) {
     let mut out = [0u8; 1024];
     let mut at = text::put(&mut out, 0, name);
     at = put_switch(&mut out, at, zc);
@@ -199,22 +198,22 @@ fn report(name: &[u8], zc: bool, t: Tally) {
     at = text::put(&mut out, at, b"  digest 0x");
     at = text::put_hex(&mut out, at, t.digest, 16);
     at = text::put_byte(&mut out, at, b'\n');
-    io::write_all(STDOUT_FILENO, text::before(&out, at));
+    console::print(rt, text::before(&out, at));
 }
 
-fn report_all(zc: bool) {
-    report(b"low halves under 0x0000", zc, sweep(0, 65536, zc));
-    report(b"low halves under 0xffff", zc, sweep(1, 65536, zc));
-    report(b"low halves under 0x0002", zc, sweep(2, 65536, zc));
-    report(b"low halves under 0xa5a8", zc, sweep(3, 65536, zc));
-    report(b"low halves in runs", zc, sweep_runs(zc));
-    report(b"jalr", zc, sweep(4, 49152, zc));
-    report(b"jal", zc, sweep(5, 192, zc));
-    report(b"branch", zc, sweep(6, 1536, zc));
-    report(b"random", zc, sweep(7, 100000, zc));
+fn report_all(rt: &impl Print, zc: bool) {
+    report(rt, b"low halves under 0x0000", zc, sweep(0, 65536, zc));
+    report(rt, b"low halves under 0xffff", zc, sweep(1, 65536, zc));
+    report(rt, b"low halves under 0x0002", zc, sweep(2, 65536, zc));
+    report(rt, b"low halves under 0xa5a8", zc, sweep(3, 65536, zc));
+    report(rt, b"low halves in runs", zc, sweep_runs(zc));
+    report(rt, b"jalr", zc, sweep(4, 49152, zc));
+    report(rt, b"jal", zc, sweep(5, 192, zc));
+    report(rt, b"branch", zc, sweep(6, 1536, zc));
+    report(rt, b"random", zc, sweep(7, 100000, zc));
 }
 
-fn main() {
-    report_all(false);
-    report_all(true);
+fn main(rt: HostRuntime) {
+    report_all(&rt, false);
+    report_all(&rt, true);
 }

@@ -2,8 +2,6 @@
 // goes, from pc to its target.
 ghost use Rattle.std.specs.Prelude.{◌<◌};
 
-use libc::STDIN_FILENO;
-
 // How many specimens there are, their words, and the bytes of these.
 pub(crate) const SPECIMENS: usize = 136;
 
@@ -30,9 +28,9 @@ fn word_at(bytes: &[u8; BYTES], i: usize) -> u64
 }
 
 // Reads all specimens. Words that are missing are 0.
-pub(crate) fn read_words(words: &mut [u64; WORDS]) {
+pub(crate) fn read_words(rt: &impl Input, words: &mut [u64; WORDS]) {
     let mut bytes = [0u8; BYTES];
-    io::read_full(STDIN_FILENO, &mut bytes);
+    console::fill(&mut rt.reader(), &mut bytes);
     for i in 0..WORDS {
         words[i] = word_at(&bytes, i);
     }

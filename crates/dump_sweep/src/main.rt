@@ -13,7 +13,6 @@ mod tally;
 
 use cases::{Setting, case_count, run_case};
 use input::{SPECIMENS, WORDS};
-use libc::STDOUT_FILENO;
 use std::num::wrapping_add_u64;
 use tally::{ANSWERS, Tally, none_after};
 
@@ -114,39 +113,36 @@ fn put_counts(out: &mut [u8], at: usize, counts: [u64; ANSWERS]) -> usize {
 }
 
 // A group's line: its name and its counts. The digest goes on with the next group.
-fn report(words: &[u64; WORDS], name: &[u8], group: u64, digest: u64) -> u64 {
+fn report(rt: &impl Print, words: &[u64; WORDS], name: &[u8], group: u64, digest: u64) -> u64 {
     let t = run_group(words, group, digest);
     let mut out = [0u8; 256];
     let mut at = text::put(&mut out, 0, name);
     let counts = t.counts;
     at = put_counts(&mut out, at, counts);
-    io::write_all(STDOUT_FILENO, text::before(&out, at));
+    console::print(rt, text::before(&out, at));
     t.digest
 }
 
-fn report_digest(digest: u64) {
+fn report_digest(rt: &impl Print, digest: u64) {
     let mut out = [0u8; 64];
     let mut at = text::put(&mut out, 0, b"digest 0x");
     at = text::put_hex(&mut out, at, digest, 16);
     at = text::put_byte(&mut out, at, b'\n');
-    io::write_all(STDOUT_FILENO, text::before(&out, at));
+    console::print(rt, text::before(&out, at));
 }
 
-fn main() {
+fn main(rt: HostRuntime) {
     let mut words = [0u64; WORDS];
-    input::read_words(&mut words);
-    io::write_all(
-        STDOUT_FILENO,
-        b"group accepted outside cut-off type target 6 11\n",
-    );
-    let mut h = report(&words, b"good", 0, 0);
-    h = report(&words, b"types", 1, h);
-    h = report(&words, b"source-bits", 2, h);
-    h = report(&words, b"target-bits", 3, h);
-    h = report(&words, b"data-bits", 4, h);
-    h = report(&words, b"images-cut", 5, h);
-    h = report(&words, b"bases", 6, h);
-    h = report(&words, b"lengths", 7, h);
-    h = report(&words, b"pairs", 8, h);
-    report_digest(h);
+    input::read_words(&rt, &mut words);
+    console::print(&rt, b"group accepted outside cut-off type target 6 11\n");
+    let mut h = report(&rt, &words, b"good", 0, 0);
+    h = report(&rt, &words, b"types", 1, h);
+    h = report(&rt, &words, b"source-bits", 2, h);
+    h = report(&rt, &words, b"target-bits", 3, h);
+    h = report(&rt, &words, b"data-bits", 4, h);
+    h = report(&rt, &words, b"images-cut", 5, h);
+    h = report(&rt, &words, b"bases", 6, h);
+    h = report(&rt, &words, b"lengths", 7, h);
+    h = report(&rt, &words, b"pairs", 8, h);
+    report_digest(&rt, h);
 }

@@ -14,8 +14,8 @@ mod pairs;
 mod random_run;
 mod switch;
 
-fn main() {
-    bench_lines::report();
-    random_run::report();
-    pairs::report();
+fn main(rt: HostRuntime) {
+    bench_lines::report(&rt);
+    random_run::report(&rt);
+    pairs::report(&rt);
 }

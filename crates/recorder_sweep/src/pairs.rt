@@ -6,7 +6,6 @@ use crate::draw_states::{draw_entries, draw_registers};
 use crate::events::{
     cycles_of, differing_addresses, is_mispredicted, is_off, is_retired, with_addresses,
 };
-use libc::STDOUT_FILENO;
 use machine::good::is_good;
 use machine::{Event, Registers};
 use recorder::steps::{step, step_in_place};
@@ -332,7 +331,7 @@ fn run_pairs() -> Tally {
     t
 }
 
-pub(crate) fn report() {
+pub(crate) fn report(rt: &impl Print) {
     let t = run_pairs();
     let mut out = [0u8; 1024];
     let mut at = text::put(&mut out, 0, b"pairs\n");
@@ -351,5 +350,5 @@ pub(crate) fn report() {
     at = put_count(&mut out, at, b"  end states unequal ", t.end_states_unequal);
     at = put_word(&mut out, at, b"  answers 0x", t.answers);
     at = put_word(&mut out, at, b"  end states 0x", t.end_states);
-    io::write_all(STDOUT_FILENO, text::before(&out, at));
+    console::print(rt, text::before(&out, at));
 }

@@ -9,7 +9,6 @@ use crate::mispredictions::{
     Before, Mispredictions, no_mispredictions, put_mispredictions, read_before, with_flags,
 };
 use crate::switch::{Switched, no_switched, put_switched, with_switch};
-use libc::STDOUT_FILENO;
 use machine::answers::{number_index, value_index};
 use machine::good::is_good;
 use machine::{Buffer, Event, Mode, Registers};
@@ -271,7 +270,7 @@ fn put_met(
     put_switched(out, next, switched)
 }
 
-pub(crate) fn report() {
+pub(crate) fn report(rt: &impl Print) {
     let t = run_lists();
     let mut out = [0u8; 4096];
     let mut at = text::put(&mut out, 0, b"random run\n");
@@ -298,5 +297,5 @@ pub(crate) fn report() {
     );
     at = put_word(&mut out, at, b"  answers 0x", t.answers);
     at = put_word(&mut out, at, b"  states 0x", t.states);
-    io::write_all(STDOUT_FILENO, text::before(&out, at));
+    console::print(rt, text::before(&out, at));
 }

@@ -4,6 +4,7 @@ ghost use Rattle.std.specs.Prelude.{◌<◌};
 use crate::input::least;
 use crate::output::end_line;
 use crate::report::COUNTS;
+use console::Complain;
 use machine::answers::{NUMBERS, number_index, value_index};
 use std::num::wrapping_add_u64;
 
@@ -56,19 +57,31 @@ pub(crate) fn count_answers(counts: &mut [u64; COUNTS], rows: &[u64], answers: &
     counts[0] = wrapping_add_u64(counts[0], answered);
 }
 
-fn put_answer(out: &mut [u8], at: usize, number: u64, value: u64) -> usize {
+fn put_answer(
+    rt: &(impl Print + Complain),
+    out: &mut [u8],
+    at: usize,
+    number: u64,
+    value: u64,
+) -> usize {
     let mut next = text::put_decimal(out, at, number);
     next = text::put_byte(out, next, b' ');
     next = text::put_short_hex(out, next, value);
-    end_line(out, next)
+    end_line(rt, out, next)
 }
 
-fn put_answers(out: &mut [u8], at: usize, answers: &[u64], n: usize) -> usize {
+fn put_answers(
+    rt: &(impl Print + Complain),
+    out: &mut [u8],
+    at: usize,
+    answers: &[u64],
+    n: usize,
+) -> usize {
     let mut next = at;
     let count = least(n, answers.len() / 2);
     let mut i = 0;
     while i < count {
-        next = put_answer(out, next, answers[2 * i], answers[2 * i + 1]);
+        next = put_answer(rt, out, next, answers[2 * i], answers[2 * i + 1]);
         i += 1;
     }
     next
@@ -76,6 +89,7 @@ fn put_answers(out: &mut [u8], at: usize, answers: &[u64], n: usize) -> usize {
 
 // The answers to n rows, if asked for.
 pub(crate) fn put_answers_if(
+    rt: &(impl Print + Complain),
     out: &mut [u8],
     at: usize,
     answers: &[u64],
@@ -83,7 +97,7 @@ pub(crate) fn put_answers_if(
     asked: bool,
 ) -> usize {
     if asked {
-        put_answers(out, at, answers, n)
+        put_answers(rt, out, at, answers, n)
     } else {
         at
     }

@@ -8,13 +8,6 @@ pub(crate) const WORDS: usize = 8192;
 
 pub(crate) const ANSWERS: usize = 4096;
 
-// A block of a file: how many bytes, and whether a read failed.
-#[derive(Drop)]
-pub(crate) struct Block {
-    pub(crate) count: usize,
-    pub(crate) failed: bool,
-}
-
 fn widened(byte: u8) -> u64 {
     byte as u64
 }
@@ -47,25 +40,5 @@ pub(crate) fn put_words(words: &mut [u64], input: &[u8]) {
     while i < count {
         words[i] = word_at(input, 8 * i);
         i += 1;
-    }
-}
-
-// Reads until the buffer is full, the file ends or a read fails.
-pub(crate) fn read_block(fd: i32, input: &mut [u8]) -> Block {
-    let mut count = 0;
-    while count < input.len() {
-        let got = libc::read(fd, &mut input[count..]);
-        let more = io::count(got, &input[count..]);
-        if more == 0 {
-            return Block {
-                count,
-                failed: got < 0,
-            };
-        }
-        count += more;
-    }
-    Block {
-        count,
-        failed: false,
     }
 }

@@ -10,7 +10,9 @@ mod problems;
 mod report;
 mod runs;
 
-use libc::STDOUT_FILENO;
+use console::Complain;
+use std::env::Env;
+use std::fs::Files;
 use text::is_same;
 
 // What an argument before the traces is.
@@ -27,7 +29,7 @@ enum Flag {
 
 // What the flags ask for, the number of the first argument after them, and whether there are several
 // traces.
-#[derive(Drop)]
+#[derive(Clone, Copy)]
 struct Options {
     answers: bool,
     state: bool,
@@ -62,7 +64,7 @@ fn flag_of(argument: &[u8]) -> Flag {
 }
 
 // The options with argument i read. One that is no flag ends them.
-fn with_argument(o: Options, i: usize, argument: &[u8]) -> Options {
+fn with_argument(rt: &impl Complain, o: Options, i: usize, argument: &[u8]) -> Options {
     let mut next = o;
     match flag_of(argument) {
         Flag::None => next.first = i,
@@ -72,20 +74,21 @@ fn with_argument(o: Options, i: usize, argument: &[u8]) -> Options {
         Flag::Dump => next.dump = true,
         Flag::Help => next.help = true,
         Flag::Unknown => {
-            problems::unknown_flag(argument);
+            problems::unknown_flag(rt, argument);
             next.is_known = false;
         }
     }
     next
 }
 
-fn read_argument(o: Options, i: usize) -> Options {
-    let mut buffer = io::buffer();
-    let length = os::arg(i, &mut buffer);
-    with_argument(o, i, text::before(&buffer, length))
+// One that is too long is read as an empty one.
+fn read_argument(rt: &(impl Env + Complain), o: Options, i: usize) -> Options {
+    let mut buffer = console::buffer();
+    let length = console::arg(rt, i, &mut buffer).unwrap_or(0);
+    with_argument(rt, o, i, text::before(&buffer, length))
 }
 
-fn read_options(count: usize) -> Options {
+fn read_options(rt: &(impl Env + Complain), count: usize) -> Options {
     let mut o = Options {
         answers: false,
         state: false,
@@ -98,63 +101,70 @@ fn read_options(count: usize) -> Options {
     };
     let mut i = 1;
     while i < count && o.first == count && o.is_known && !o.help {
-        o = read_argument(o, i);
+        o = read_argument(rt, o, i);
         i += 1;
     }
     o.several = o.first < count && count - o.first > 1;
     o
 }
 
-fn print_usage() {
-    io::write_all(
-        STDOUT_FILENO,
+fn print_usage(rt: &impl Print) {
+    console::print(
+        rt,
         b"usage: replay [--answers] [--state] [--zc] TRACE...\n       replay --dump [--zc] TRACE\nReplays traces of events through the recorder, each from reset, and prints what it recorded.\n  --answers  first the answer to each event: its number, and its value in hex\n  --state    last all physical entries: index, ctrsource, ctrtarget and ctrdata\n  --zc       from a reset with table jumps and pop-returns (Zcmt and Zcmp) switched on\n  --dump     the entries alone, as check_dump takes them: ctrsource, ctrtarget and ctrdata of each up to the depth, newest first\nA trace is a file of little-endian 64-bit words, four to an event.\n",
     );
 }
 
 // Argument i as a trace.
-fn run_argument(out: &mut [u8], at: usize, i: usize, o: Options) -> usize {
-    let mut buffer = io::buffer();
-    let length = os::arg(i, &mut buffer);
-    if os::errno() != 0 {
-        os::fail(b"replay: a trace's name");
-        return at;
+fn run_argument(
+    rt: &(impl Files + Env + Print + Complain),
+    out: &mut [u8],
+    at: usize,
+    i: usize,
+    o: Options,
+) -> usize {
+    let mut buffer = console::buffer();
+    match console::arg(rt, i, &mut buffer) {
+        Ok(length) => runs::replay(rt, out, at, text::before(&buffer, length), o),
+        Err(error) => {
+            console::fail(rt, b"replay: a trace's name", error);
+            at
+        }
     }
-    runs::replay(out, at, text::before(&buffer, length), o)
 }
 
-fn run_traces(count: usize, o: Options) {
-    let mut out = io::large_buffer();
+fn run_traces(rt: &(impl Files + Env + Print + Complain), count: usize, o: Options) {
+    let mut out = console::large_buffer();
     let mut at = 0;
     let mut i = o.first;
     while i < count {
-        at = run_argument(&mut out, at, i, o);
+        at = run_argument(rt, &mut out, at, i, o);
         i += 1;
     }
-    output::flush(&out, at);
+    output::flush(rt, &out, at);
 }
 
 // A dump is of one trace, and nothing is beside it.
-fn run_if_possible(count: usize, o: Options) {
+fn run_if_possible(rt: &(impl Files + Env + Print + Complain), count: usize, o: Options) {
     if o.dump && (o.answers || o.state) {
-        problems::dump_and_text();
+        problems::dump_and_text(rt);
     } else if o.dump && o.several {
-        problems::dump_of_several();
+        problems::dump_of_several(rt);
     } else {
-        run_traces(count, o);
+        run_traces(rt, count, o);
     }
 }
 
-fn main() {
-    let count = os::arg_count();
-    let o = read_options(count);
+fn main(rt: HostRuntime) {
+    let count = console::arg_count(&rt);
+    let o = read_options(&rt, count);
     if o.is_known {
         if count < 2 || o.help {
-            print_usage();
+            print_usage(&rt);
         } else if o.first < count {
-            run_if_possible(count, o);
+            run_if_possible(&rt, count, o);
         } else {
-            problems::no_trace();
+            problems::no_trace(&rt);
         }
     }
 }

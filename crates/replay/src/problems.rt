@@ -1,5 +1,6 @@
 // What goes wrong, a line on standard error each.
-use libc::STDERR_FILENO;
+use console::Complain;
+use std::io;
 
 // Room for the longest name of a file, and for words beside it.
 const LONGEST: usize = 8192;
@@ -10,14 +11,14 @@ fn put_file(line: &mut [u8], name: &[u8]) -> usize {
 }
 
 // A file that can't be opened or read: the system's words say why.
-pub(crate) fn unreadable(name: &[u8]) {
+pub(crate) fn unreadable(rt: &impl Complain, name: &[u8], error: io::Error) {
     let mut line = [0u8; LONGEST];
     let at = put_file(&mut line, name);
-    os::fail(text::before(&line, at));
+    console::fail(rt, text::before(&line, at), error);
 }
 
-fn write_line(line: &[u8], at: usize) {
-    io::write_all(STDERR_FILENO, text::before(line, at));
+fn write_line(rt: &impl Complain, line: &[u8], at: usize) {
+    console::tell(rt, text::before(line, at));
 }
 
 // Words, and a number after them.
@@ -26,13 +27,13 @@ fn put_number(line: &mut [u8], at: usize, words: &[u8], n: u64) -> usize {
     text::put_decimal(line, next, n)
 }
 
-pub(crate) fn malformed(name: &[u8], row: u64, word: u64) {
+pub(crate) fn malformed(rt: &impl Complain, name: &[u8], row: u64, word: u64) {
     let mut line = [0u8; LONGEST];
     let mut at = put_file(&mut line, name);
     at = put_number(&mut line, at, b": row ", row);
     at = put_number(&mut line, at, b": word ", word);
     at = text::put(&mut line, at, b" breaks a rule\n");
-    write_line(&line, at);
+    write_line(rt, &line, at);
 }
 
 // Where the bytes that are no whole row lie.
@@ -54,33 +55,30 @@ fn put_bytes(line: &mut [u8], at: usize, count: u64) -> usize {
     }
 }
 
-pub(crate) fn left_over(name: &[u8], count: u64, rows: u64) {
+pub(crate) fn left_over(rt: &impl Complain, name: &[u8], count: u64, rows: u64) {
     let mut line = [0u8; LONGEST];
     let mut at = put_file(&mut line, name);
     at = put_bytes(&mut line, at, count);
     at = put_where(&mut line, at, rows);
-    write_line(&line, at);
+    write_line(rt, &line, at);
 }
 
-pub(crate) fn unknown_flag(flag: &[u8]) {
+pub(crate) fn unknown_flag(rt: &impl Complain, flag: &[u8]) {
     let mut line = [0u8; LONGEST];
     let mut at = text::put(&mut line, 0, b"replay: unknown flag ");
     at = text::put(&mut line, at, flag);
     at = text::put_byte(&mut line, at, b'\n');
-    write_line(&line, at);
+    write_line(rt, &line, at);
 }
 
-pub(crate) fn no_trace() {
-    io::write_all(STDERR_FILENO, b"replay: no trace given\n");
+pub(crate) fn no_trace(rt: &impl Complain) {
+    console::tell(rt, b"replay: no trace given\n");
 }
 
-pub(crate) fn dump_and_text() {
-    io::write_all(
-        STDERR_FILENO,
-        b"replay: --dump goes without --answers and --state\n",
-    );
+pub(crate) fn dump_and_text(rt: &impl Complain) {
+    console::tell(rt, b"replay: --dump goes without --answers and --state\n");
 }
 
-pub(crate) fn dump_of_several() {
-    io::write_all(STDERR_FILENO, b"replay: --dump takes one trace\n");
+pub(crate) fn dump_of_several(rt: &impl Complain) {
+    console::tell(rt, b"replay: --dump takes one trace\n");
 }

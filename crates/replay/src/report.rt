@@ -3,6 +3,7 @@ ghost use Rattle.std.specs.Prelude.{◌<◌};
 ghost use Rattle.recorder.specs.Entries.{entries};
 
 use crate::output::end_line;
+use console::Complain;
 use history::{put_line, put_path};
 use machine::depths::{depth, physical};
 use machine::{Buffer, Entry, Mode, Registers};
@@ -25,45 +26,57 @@ fn put_words(out: &mut [u8], at: usize, k: u64) -> usize {
     )
 }
 
-fn put_count(out: &mut [u8], at: usize, k: u64, count: u64) -> usize {
+fn put_count(rt: &(impl Print + Complain), out: &mut [u8], at: usize, k: u64, count: u64) -> usize {
     let mut next = put_words(out, at, k);
     next = text::put(out, next, b": ");
     next = text::put_decimal(out, next, count);
-    end_line(out, next)
+    end_line(rt, out, next)
 }
 
 // A count of what occurred.
-fn put_if_any(out: &mut [u8], at: usize, k: u64, count: u64) -> usize {
+fn put_if_any(
+    rt: &(impl Print + Complain),
+    out: &mut [u8],
+    at: usize,
+    k: u64,
+    count: u64,
+) -> usize {
     if count == 0 {
         at
     } else {
-        put_count(out, at, k, count)
+        put_count(rt, out, at, k, count)
     }
 }
 
-fn put_events(out: &mut [u8], at: usize, events: u64) -> usize {
+fn put_events(rt: &(impl Print + Complain), out: &mut [u8], at: usize, events: u64) -> usize {
     let mut next = text::put(out, at, b"events ");
     next = text::put_decimal(out, next, events);
-    end_line(out, next)
+    end_line(rt, out, next)
 }
 
 // How many events there were, and how many of each answer that occurred.
-pub(crate) fn put_counts(out: &mut [u8], at: usize, counts: &[u64; COUNTS], events: u64) -> usize {
-    let mut next = put_events(out, at, events);
+pub(crate) fn put_counts(
+    rt: &(impl Print + Complain),
+    out: &mut [u8],
+    at: usize,
+    counts: &[u64; COUNTS],
+    events: u64,
+) -> usize {
+    let mut next = put_events(rt, out, at, events);
     for k in 0..COUNTS {
-        next = put_if_any(out, next, k as u64, counts[k]);
+        next = put_if_any(rt, out, next, k as u64, counts[k]);
     }
     next
 }
 
-fn put_mode(out: &mut [u8], at: usize, m: Mode) -> usize {
+fn put_mode(rt: &(impl Print + Complain), out: &mut [u8], at: usize, m: Mode) -> usize {
     let next = put_line(
         out,
         at,
         b"mode U\nmode S\nmode M\nmode VU\nmode VS",
         mode_code(m),
     );
-    end_line(out, next)
+    end_line(rt, out, next)
 }
 
 // The registers but the mode, and the switch, in the order of their lines.
@@ -85,7 +98,7 @@ fn register_words(r: Registers) -> [u64; REGISTERS] {
 }
 
 // Register k of those.
-fn put_register(out: &mut [u8], at: usize, k: u64, x: u64) -> usize {
+fn put_register(rt: &(impl Print + Complain), out: &mut [u8], at: usize, k: u64, x: u64) -> usize {
     let mut next = put_line(
         out,
         at,
@@ -93,15 +106,20 @@ fn put_register(out: &mut [u8], at: usize, k: u64, x: u64) -> usize {
         k,
     );
     next = text::put_short_hex(out, next, x);
-    end_line(out, next)
+    end_line(rt, out, next)
 }
 
-pub(crate) fn put_registers(out: &mut [u8], at: usize, r: Registers) -> usize {
+pub(crate) fn put_registers(
+    rt: &(impl Print + Complain),
+    out: &mut [u8],
+    at: usize,
+    r: Registers,
+) -> usize {
     let m = r.mode;
     let words = register_words(r);
-    let mut next = put_mode(out, at, m);
+    let mut next = put_mode(rt, out, at, m);
     for k in 0..REGISTERS {
-        next = put_register(out, next, k as u64, words[k]);
+        next = put_register(rt, out, next, k as u64, words[k]);
     }
     next
 }
@@ -137,18 +155,30 @@ fn put_misp(out: &mut [u8], at: usize, ctrtarget: u64) -> usize {
 }
 
 // A line of the history: logical index, addresses, type, count and misprediction.
-fn put_transfer(out: &mut [u8], at: usize, i: u64, e: Entry) -> usize {
+fn put_transfer(
+    rt: &(impl Print + Complain),
+    out: &mut [u8],
+    at: usize,
+    i: u64,
+    e: Entry,
+) -> usize {
     let mut next = put_index(out, at, i);
     next = put_path(out, next, e.ctrsource, e.ctrtarget, e.ctrdata);
     next = put_cycles_if_valid(out, next, e.ctrdata);
     next = put_misp(out, next, e.ctrtarget);
-    end_line(out, next)
+    end_line(rt, out, next)
 }
 
 // The line if the entry is valid.
-fn put_if_valid(out: &mut [u8], at: usize, i: u64, e: Entry) -> usize {
+fn put_if_valid(
+    rt: &(impl Print + Complain),
+    out: &mut [u8],
+    at: usize,
+    i: u64,
+    e: Entry,
+) -> usize {
     if bits::bit(e.ctrsource, 0) {
-        put_transfer(out, at, i, e)
+        put_transfer(rt, out, at, i, e)
     } else {
         at
     }
@@ -171,11 +201,18 @@ fn put_dumped(out: &mut [u8], at: usize, e: Entry) -> usize {
 }
 
 // A logical entry in the history or, if asked for, in a dump.
-fn put_logical(out: &mut [u8], at: usize, i: u64, e: Entry, dump: bool) -> usize {
+fn put_logical(
+    rt: &(impl Print + Complain),
+    out: &mut [u8],
+    at: usize,
+    i: u64,
+    e: Entry,
+    dump: bool,
+) -> usize {
     if dump {
         put_dumped(out, at, e)
     } else {
-        put_if_valid(out, at, i, e)
+        put_if_valid(rt, out, at, i, e)
     }
 }
 
@@ -188,6 +225,7 @@ fn index_of(b: Buffer, i: u64) -> usize
 
 // The valid entries, newest first; in a dump all up to the depth.
 pub(crate) fn put_history(
+    rt: &(impl Print + Complain),
     out: &mut [u8],
     at: usize,
     b: Buffer,
@@ -204,7 +242,7 @@ pub(crate) fn put_history(
             ctrtarget: ctrtarget[p],
             ctrdata: ctrdata[p],
         };
-        next = put_logical(out, next, i, e, dump);
+        next = put_logical(rt, out, next, i, e, dump);
     }
     next
 }
@@ -219,13 +257,14 @@ fn put_entry_words(out: &mut [u8], at: usize, e: Entry) -> usize {
 }
 
 // A physical entry: its index and its three words.
-fn put_entry(out: &mut [u8], at: usize, i: u64, e: Entry) -> usize {
+fn put_entry(rt: &(impl Print + Complain), out: &mut [u8], at: usize, i: u64, e: Entry) -> usize {
     let mut next = put_index(out, at, i);
     next = put_entry_words(out, next, e);
-    end_line(out, next)
+    end_line(rt, out, next)
 }
 
 fn put_entries(
+    rt: &(impl Print + Complain),
     out: &mut [u8],
     at: usize,
     ctrsource: &[u64; ENTRIES],
@@ -239,13 +278,14 @@ fn put_entries(
             ctrtarget: ctrtarget[i],
             ctrdata: ctrdata[i],
         };
-        next = put_entry(out, next, i as u64, e);
+        next = put_entry(rt, out, next, i as u64, e);
     }
     next
 }
 
 // All entries, if asked for.
 pub(crate) fn put_entries_if(
+    rt: &(impl Print + Complain),
     out: &mut [u8],
     at: usize,
     ctrsource: &[u64; ENTRIES],
@@ -254,7 +294,7 @@ pub(crate) fn put_entries_if(
     asked: bool,
 ) -> usize {
     if asked {
-        put_entries(out, at, ctrsource, ctrtarget, ctrdata)
+        put_entries(rt, out, at, ctrsource, ctrtarget, ctrdata)
     } else {
         at
     }

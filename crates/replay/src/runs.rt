@@ -1,12 +1,16 @@
 // A trace from its file through the recorder, in blocks.
 use crate::answers::{count_answers, put_answers_if};
-use crate::input::{ANSWERS, BLOCK, Block, WORDS, least, put_words, read_block};
+use crate::input::{ANSWERS, BLOCK, WORDS, least, put_words};
 use crate::output::flush;
 use crate::report::{COUNTS, put_counts, put_entries_if, put_history, put_registers};
 use crate::{Options, problems};
+use console::{Complain, Filled};
 use machine::Registers;
 use recorder::ENTRIES;
 use recorder::steps::reset;
+use std::fs::Files;
+use std::io;
+use std::io::Read;
 use std::num::wrapping_add_u64;
 use trace::rows::decode;
 use trace::runs::replay_in_place;
@@ -17,8 +21,8 @@ const WHOLE: u64 = 4;
 
 // A run under way but for its entries and counts: the registers, whether the answers are asked for,
 // the place on the page, the rows run, the word that broke a rule (or WHOLE), the bytes left over,
-// whether a read failed, and whether there may be more to read.
-#[derive(Drop)]
+// why a read failed, if one did, and whether there may be more to read.
+#[derive(Clone, Copy)]
 struct Run {
     registers: Registers,
     answers: bool,
@@ -26,7 +30,7 @@ struct Run {
     rows: u64,
     word: u64,
     left: u64,
-    failed: bool,
+    error: Option<io::Error>,
     is_going: bool,
 }
 
@@ -65,6 +69,7 @@ fn replayed(run: Run, ran: Ran, rows: &[u64], at: usize) -> Run {
 
 // All whole rows, up to one that is malformed.
 fn run_rows(
+    rt: &(impl Print + Complain),
     ctrsource: &mut [u64; ENTRIES],
     ctrtarget: &mut [u64; ENTRIES],
     ctrdata: &mut [u64; ENTRIES],
@@ -77,7 +82,7 @@ fn run_rows(
     let r = run.registers;
     let ran = replay_in_place(ctrsource, ctrtarget, ctrdata, r, rows, answers);
     count_answers(counts, rows, answers, ran.count);
-    let at = put_answers_if(out, run.at, answers, ran.count, run.answers);
+    let at = put_answers_if(rt, out, run.at, answers, ran.count, run.answers);
     replayed(run, ran, rows, at)
 }
 
@@ -89,6 +94,7 @@ fn first_words(words: &[u64], n: usize) -> &[u64] {
 
 // The rows of the input by way of its words.
 fn run_input(
+    rt: &(impl Print + Complain),
     ctrsource: &mut [u64; ENTRIES],
     ctrtarget: &mut [u64; ENTRIES],
     ctrdata: &mut [u64; ENTRIES],
@@ -101,6 +107,7 @@ fn run_input(
 ) -> Run {
     put_words(words, input);
     run_rows(
+        rt,
         ctrsource,
         ctrtarget,
         ctrdata,
@@ -113,34 +120,36 @@ fn run_input(
 }
 
 // The run after the rows of a block.
-fn after_block(run: Run, block: Block) -> Run {
+fn after_block(run: Run, block: Filled) -> Run {
     let mut next = run;
     next.left = (block.count % 32) as u64;
-    next.failed = block.failed;
-    next.is_going = run.word == WHOLE && !block.failed && block.count == BLOCK;
+    next.error = block.error;
+    next.is_going = run.word == WHOLE && block.error.is_none() && block.count == BLOCK;
     next
 }
 
 // A proved loop has to end, and nothing says that a file does: the count of blocks is one that no
 // run uses up.
 fn run_file(
+    rt: &(impl Print + Complain),
     ctrsource: &mut [u64; ENTRIES],
     ctrtarget: &mut [u64; ENTRIES],
     ctrdata: &mut [u64; ENTRIES],
     counts: &mut [u64; COUNTS],
     out: &mut [u8],
-    fd: i32,
+    file: &mut impl Read,
     run: Run,
 ) -> Run {
-    let mut input = io::large_buffer();
+    let mut input = console::large_buffer();
     let mut words = [0; WORDS];
     let mut answers = [0; ANSWERS];
     let mut next = run;
     let mut blocks = u64::MAX;
     while blocks > 0 && next.is_going {
         blocks -= 1;
-        let block = read_block(fd, &mut input);
+        let block = console::fill(file, &mut input);
         next = run_input(
+            rt,
             ctrsource,
             ctrtarget,
             ctrdata,
@@ -157,22 +166,23 @@ fn run_file(
 }
 
 // What ended a run before its file did.
-fn tell_problem(name: &[u8], run: Run) {
+fn tell_problem(rt: &impl Complain, name: &[u8], run: Run) {
     if run.word != WHOLE {
-        problems::malformed(name, run.rows, run.word);
-    } else if run.left != 0 && !run.failed {
-        problems::left_over(name, run.left, run.rows);
+        problems::malformed(rt, name, run.rows, run.word);
+    } else if run.left != 0 && run.error.is_none() {
+        problems::left_over(rt, name, run.left, run.rows);
     }
 }
 
-fn tell_failure(name: &[u8], failed: bool) {
-    if failed {
-        problems::unreadable(name);
+fn tell_failure(rt: &impl Complain, name: &[u8], failure: Option<io::Error>) {
+    if let Some(error) = failure {
+        problems::unreadable(rt, name, error);
     }
 }
 
 // What a run left behind: counts, registers, the history and, if asked for, all entries.
 fn put_run(
+    rt: &(impl Print + Complain),
     out: &mut [u8],
     run: Run,
     counts: &[u64; COUNTS],
@@ -183,14 +193,15 @@ fn put_run(
 ) -> usize {
     let r = run.registers;
     let b = r.buffer;
-    let mut next = put_counts(out, run.at, counts, run.rows);
-    next = put_registers(out, next, r);
-    next = put_history(out, next, b, ctrsource, ctrtarget, ctrdata, false);
-    put_entries_if(out, next, ctrsource, ctrtarget, ctrdata, state)
+    let mut next = put_counts(rt, out, run.at, counts, run.rows);
+    next = put_registers(rt, out, next, r);
+    next = put_history(rt, out, next, b, ctrsource, ctrtarget, ctrdata, false);
+    put_entries_if(rt, out, next, ctrsource, ctrtarget, ctrdata, state)
 }
 
 // The same, or the entries alone as a dump. It is of one trace, and the page is long enough for it.
 fn put_all(
+    rt: &(impl Print + Complain),
     out: &mut [u8],
     run: Run,
     counts: &[u64; COUNTS],
@@ -201,16 +212,16 @@ fn put_all(
 ) -> usize {
     if o.dump {
         let b = run.registers.buffer;
-        put_history(out, run.at, b, ctrsource, ctrtarget, ctrdata, true)
+        put_history(rt, out, run.at, b, ctrsource, ctrtarget, ctrdata, true)
     } else {
-        put_run(out, run, counts, ctrsource, ctrtarget, ctrdata, o.state)
+        put_run(rt, out, run, counts, ctrsource, ctrtarget, ctrdata, o.state)
     }
 }
 
 // Writes the page, and tells what ended the run.
-fn finish(out: &mut [u8], at: usize, name: &[u8], run: Run) -> usize {
-    let next = flush(out, at);
-    tell_problem(name, run);
+fn finish(rt: &(impl Print + Complain), out: &mut [u8], at: usize, name: &[u8], run: Run) -> usize {
+    let next = flush(rt, out, at);
+    tell_problem(rt, name, run);
     next
 }
 
@@ -223,13 +234,20 @@ fn started(at: usize, answers: bool, registers: Registers) -> Run {
         rows: 0,
         word: WHOLE,
         left: 0,
-        failed: false,
+        error: None,
         is_going: true,
     }
 }
 
 // An open file from reset, and what it left behind.
-fn replay_file(out: &mut [u8], at: usize, name: &[u8], fd: i32, o: Options) -> usize {
+fn replay_file(
+    rt: &(impl Print + Complain),
+    out: &mut [u8],
+    at: usize,
+    name: &[u8],
+    file: &mut impl Read,
+    o: Options,
+) -> usize {
     let s = reset(o.zc);
     let mut ctrsource = s.ctrsource;
     let mut ctrtarget = s.ctrtarget;
@@ -237,46 +255,68 @@ fn replay_file(out: &mut [u8], at: usize, name: &[u8], fd: i32, o: Options) -> u
     let registers = s.registers;
     let mut counts = [0; COUNTS];
     let run = run_file(
+        rt,
         &mut ctrsource,
         &mut ctrtarget,
         &mut ctrdata,
         &mut counts,
         out,
-        fd,
+        file,
         started(at, o.answers, registers),
     );
-    tell_failure(name, run.failed);
-    let next = put_all(out, run, &counts, &ctrsource, &ctrtarget, &ctrdata, o);
-    finish(out, next, name, run)
+    tell_failure(rt, name, run.error);
+    let next = put_all(rt, out, run, &counts, &ctrsource, &ctrtarget, &ctrdata, o);
+    finish(rt, out, next, name, run)
 }
 
-fn put_name(out: &mut [u8], at: usize, name: &[u8]) -> usize {
-    let mut next = flush(out, at);
+fn put_name(rt: &(impl Print + Complain), out: &mut [u8], at: usize, name: &[u8]) -> usize {
+    let mut next = flush(rt, out, at);
     next = text::put(out, next, b"trace ");
     next = text::put(out, next, name);
     text::put_byte(out, next, b'\n')
 }
 
 // The name of a trace, where there are several.
-fn put_name_if(out: &mut [u8], at: usize, name: &[u8], several: bool) -> usize {
-    if several { put_name(out, at, name) } else { at }
+fn put_name_if(
+    rt: &(impl Print + Complain),
+    out: &mut [u8],
+    at: usize,
+    name: &[u8],
+    several: bool,
+) -> usize {
+    if several {
+        put_name(rt, out, at, name)
+    } else {
+        at
+    }
 }
 
-// A file that is open is replayed and closed.
-fn replay_open(out: &mut [u8], at: usize, name: &[u8], fd: i32, o: Options) -> usize {
-    let mut next = put_name_if(out, at, name, o.several);
-    next = replay_file(out, next, name, fd, o);
-    libc::close(fd);
-    next
+// A file that is open is replayed.
+fn replay_open(
+    rt: &(impl Print + Complain),
+    out: &mut [u8],
+    at: usize,
+    name: &[u8],
+    file: &mut impl Read,
+    o: Options,
+) -> usize {
+    let next = put_name_if(rt, out, at, name, o.several);
+    replay_file(rt, out, next, name, file, o)
 }
 
 // A trace by its file's name.
-pub(crate) fn replay(out: &mut [u8], at: usize, name: &[u8], o: Options) -> usize {
-    let fd = os::open_read(name);
-    if fd < 0 {
-        problems::unreadable(name);
-        at
-    } else {
-        replay_open(out, at, name, fd, o)
+pub(crate) fn replay(
+    rt: &(impl Files + Print + Complain),
+    out: &mut [u8],
+    at: usize,
+    name: &[u8],
+    o: Options,
+) -> usize {
+    match console::open(rt, name) {
+        Ok(mut file) => replay_open(rt, out, at, name, &mut file, o),
+        Err(error) => {
+            problems::unreadable(rt, name, error);
+            at
+        }
     }
 }

@@ -1,8 +1,6 @@
 // The rows on standard input, and parts of them.
 ghost use Rattle.std.specs.Prelude.{◌<◌, ◌≤◌};
 
-use libc::STDIN_FILENO;
-
 // How many rows are well-formed, and how many after them are not.
 pub(crate) const GOOD: usize = 512;
 
@@ -32,9 +30,9 @@ fn word_at(bytes: &[u8; BYTES], i: usize) -> u64
 }
 
 // Reads all rows. Words that are missing are 0.
-pub(crate) fn read_words(words: &mut [u64; WORDS]) {
+pub(crate) fn read_words(rt: &impl Input, words: &mut [u64; WORDS]) {
     let mut bytes = [0u8; BYTES];
-    io::read_full(STDIN_FILENO, &mut bytes);
+    console::fill(&mut rt.reader(), &mut bytes);
     for i in 0..WORDS {
         words[i] = word_at(&bytes, i);
     }

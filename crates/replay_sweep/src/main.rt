@@ -16,9 +16,9 @@ mod whole;
 use input::WORDS;
 use slices::run_slices;
 
-fn main() {
+fn main(rt: HostRuntime) {
     let mut words = [0u64; WORDS];
-    input::read_words(&mut words);
+    input::read_words(&rt, &mut words);
     let s = run_slices(&words);
-    tally::report(malformed::run_malformed(&words, s));
+    tally::report(&rt, malformed::run_malformed(&words, s));
 }

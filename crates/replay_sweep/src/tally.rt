@@ -1,6 +1,5 @@
 // What was seen of all runs.
 use crate::answer_words::{ROOM, digest_answers, kept};
-use libc::STDOUT_FILENO;
 use machine::Registers;
 use machine::answers::number_index;
 use machine::good::is_good;
@@ -116,7 +115,7 @@ fn put_cuts(out: &mut [u8], at: usize, t: Tally) -> usize {
     put_count(out, next, b"  cuts alike ", t.cuts_alike)
 }
 
-pub(crate) fn report(t: Tally) {
+pub(crate) fn report(rt: &impl Print, t: Tally) {
     let mut out = [0u8; 1024];
     let given = t.given;
     let numbers = t.numbers;
@@ -129,5 +128,5 @@ pub(crate) fn report(t: Tally) {
     at = put_count(&mut out, at, b"  words kept ", t.kept);
     at = put_cuts(&mut out, at, t);
     at = put_word(&mut out, at, b"  digest 0x", t.digest);
-    io::write_all(STDOUT_FILENO, text::before(&out, at));
+    console::print(rt, text::before(&out, at));
 }

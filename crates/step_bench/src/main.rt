@@ -3,7 +3,6 @@
 // by its kind. Prints of each round a digest of its answers and of the state after it.
 #![tactic(auto)]
 
-use libc::{STDIN_FILENO, STDOUT_FILENO};
 use machine::{CsrAccess, Event, Operation, RetiredWord};
 use recorder::State;
 use recorder::kinds::retire;
@@ -91,25 +90,25 @@ fn run_by_kind() -> u64 {
     digest_state(answers, r, &ctrsource, &ctrtarget, &ctrdata)
 }
 
-fn report(name: &[u8], digest: u64) {
+fn report(rt: &impl Print, name: &[u8], digest: u64) {
     let mut out = [0u8; 64];
     let at = put_word(&mut out, 0, name, digest);
-    io::write_all(STDOUT_FILENO, text::before(&out, at));
+    console::print(rt, text::before(&out, at));
 }
 
-fn run_round(byte: u8) {
+fn run_round(rt: &impl Print, byte: u8) {
     match byte {
-        b'v' => report(b"by value 0x", run_by_value()),
-        b'p' => report(b"in place 0x", run_in_place()),
-        b'k' => report(b"by kind 0x", run_by_kind()),
+        b'v' => report(rt, b"by value 0x", run_by_value()),
+        b'p' => report(rt, b"in place 0x", run_in_place()),
+        b'k' => report(rt, b"by kind 0x", run_by_kind()),
         _ => {}
     }
 }
 
-fn main() {
+fn main(rt: HostRuntime) {
     let mut rounds = [0u8; ROUNDS];
-    io::read_full(STDIN_FILENO, &mut rounds);
+    console::fill(&mut rt.reader(), &mut rounds);
     for k in 0..ROUNDS {
-        run_round(rounds[k]);
+        run_round(&rt, rounds[k]);
     }
 }

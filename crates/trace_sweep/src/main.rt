@@ -3,7 +3,6 @@
 // The gate compares it with what the model prints.
 #![tactic(auto)]
 
-use libc::STDOUT_FILENO;
 use machine::{CsrAccess, Enables, Event, RetiredWord, ReturnTo, TrapTo};
 use std::num::wrapping_add_u64;
 use sweep_support::lines::{put_count, put_counts, put_word};
@@ -187,7 +186,7 @@ fn all_rows() -> Tally {
     t
 }
 
-fn main() {
+fn main(rt: HostRuntime) {
     let t = all_rows();
     let mut out = [0u8; 1024];
     let mut at = text::put(&mut out, 0, b"rows\n");
@@ -197,5 +196,5 @@ fn main() {
     at = put_counts(&mut out, at, b"  kind ", &kinds);
     at = put_counts(&mut out, at, b"  broken in word ", &broken);
     at = put_word(&mut out, at, b"  digest 0x", t.digest);
-    io::write_all(STDOUT_FILENO, text::before(&out, at));
+    console::print(&rt, text::before(&out, at));
 }
