@@ -12,7 +12,7 @@ use machine::Registers;
 pub const ENTRIES: usize = 256;
 
 // The registers, and the words of each physical entry.
-#[derive(Drop)]
+#[derive(Clone, Copy)]
 pub struct State {
     pub registers: Registers,
     pub ctrsource: [u64; ENTRIES],
@@ -21,7 +21,7 @@ pub struct State {
 }
 
 // An answer, and the state after it.
-#[derive(Drop)]
+#[derive(Clone, Copy)]
 pub struct Stepped {
     pub number: u64,
     pub value: u64,
