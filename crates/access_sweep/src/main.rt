@@ -18,7 +18,7 @@ use test_support::{SEED, digest, xorshift64};
 use trace::codes::operation_of;
 
 // What was seen, the last pseudo-random number and the last entry in focus.
-#[derive(Drop)]
+#[derive(Clone, Copy)]
 struct Run {
     random: u64,
     last: Entry,

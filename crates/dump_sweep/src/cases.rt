@@ -5,7 +5,7 @@ use crate::tally::{Tally, checked};
 use std::num::wrapping_add_u64;
 
 // An entry for a specimen in an image at a base, with the switch zc.
-#[derive(Drop)]
+#[derive(Clone, Copy)]
 pub(crate) struct Setting {
     pub(crate) base: u64,
     pub(crate) place: usize,

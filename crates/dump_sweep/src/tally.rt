@@ -8,7 +8,7 @@ use test_support::digest;
 // How many answers there are: accepted, four reasons and two refusals.
 pub(crate) const ANSWERS: usize = 7;
 
-#[derive(Drop)]
+#[derive(Clone, Copy)]
 pub(crate) struct Tally {
     pub(crate) counts: [u64; ANSWERS],
     pub(crate) digest: u64,

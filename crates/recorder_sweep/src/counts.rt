@@ -11,7 +11,7 @@ const EXPONENTS: usize = 16;
 
 // Ordinary records by their CCE, and those with CCV 0 and with CCV 1; records and swaps under RASEMU;
 // traps from a mode that is off into one that is on, recorded with a count.
-#[derive(Drop)]
+#[derive(Clone, Copy)]
 pub(crate) struct Records {
     cce: [u64; EXPONENTS],
     invalid: u64,
@@ -23,7 +23,7 @@ pub(crate) struct Records {
 // Retired words, traps and returns that left the counter at its top, those that RASEMU made zero it,
 // freezing traps whose own cycles counted; and cycles that did not count: of modes that are off, and of
 // others while FROZEN was set.
-#[derive(Drop)]
+#[derive(Clone, Copy)]
 pub(crate) struct Counted {
     top: u64,
     zeroed: u64,
@@ -34,14 +34,14 @@ pub(crate) struct Counted {
 
 // What started a counter again that had a count or a CCV: writes of control registers, those among them
 // that changed none, and SCTRCLR.
-#[derive(Drop)]
+#[derive(Clone, Copy)]
 pub(crate) struct Restarts {
     written: u64,
     unchanged: u64,
     cleared: u64,
 }
 
-#[derive(Drop)]
+#[derive(Clone, Copy)]
 pub(crate) struct Counts {
     records: Records,
     counted: Counted,

@@ -14,7 +14,7 @@ const CHANGES: usize = 25;
 
 // Changes by the depth code before an event and the one after it; events that met WRPTR from 128 up;
 // records and pops where WRPTR goes around at depth 256; valid entries that came back into use.
-#[derive(Drop)]
+#[derive(Clone, Copy)]
 pub(crate) struct Depths {
     changes: [u64; CHANGES],
     upper: u64,

@@ -4,7 +4,7 @@ use test_support::xorshift64;
 use trace::codes::{mode_of, operation_of};
 
 // An event, and the last word drawn for it.
-#[derive(Drop)]
+#[derive(Clone, Copy)]
 pub(crate) struct Drawn {
     pub(crate) event: Event,
     pub(crate) random: u64,

@@ -10,7 +10,7 @@ use test_support::xorshift64;
 use trace::codes::mode_of;
 
 // Registers, and the last word drawn for them.
-#[derive(Drop)]
+#[derive(Clone, Copy)]
 pub(crate) struct Start {
     pub(crate) registers: Registers,
     pub(crate) random: u64,

@@ -5,7 +5,7 @@ use std::num::wrapping_add_u64;
 use trace::codes::flag;
 
 // The addresses of a trap or trap return.
-#[derive(Drop)]
+#[derive(Clone, Copy)]
 struct Addresses {
     source: u64,
     target: u64,
@@ -110,7 +110,7 @@ fn chosen(is_other: bool, address: u64, other: u64) -> u64 {
 }
 
 // Where each side is off in both runs: the source side, and that of a target mode.
-#[derive(Drop)]
+#[derive(Clone, Copy)]
 struct BothOff {
     source: bool,
     target: bool,

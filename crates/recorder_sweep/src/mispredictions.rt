@@ -16,7 +16,7 @@ const ACCESSES: usize = 16;
 // Records of words, pops and swaps, each by the flag, bit 0 of the target and MISP of the entry before;
 // records of traps and returns, by whether the target mode is on in place of the flag; and accesses to
 // ctrtarget that were granted, by the operation, MISP as it was read and bit 0 of the operand.
-#[derive(Drop)]
+#[derive(Clone, Copy)]
 pub(crate) struct Mispredictions {
     records: [u64; CASES],
     pops: [u64; CASES],
@@ -36,7 +36,7 @@ pub(crate) fn no_mispredictions() -> Mispredictions {
 }
 
 // The entries that a transfer may change, before it does: ctrtarget at WRPTR, and of logical entry 0.
-#[derive(Drop)]
+#[derive(Clone, Copy)]
 pub(crate) struct Before {
     at_wrptr: u64,
     newest: u64,

@@ -18,7 +18,7 @@ use test_support::{SEED, xorshift64};
 use trace::codes::flag;
 
 // What was seen, and the last word drawn.
-#[derive(Drop)]
+#[derive(Clone, Copy)]
 struct Tally {
     random: u64,
     bad_starts: u64,
@@ -39,7 +39,7 @@ struct Tally {
 
 // A pair under way: A but for its entries, B, how many words each retired alone, and how many events
 // are left.
-#[derive(Drop)]
+#[derive(Clone, Copy)]
 struct Pair {
     a: Registers,
     b: State,
@@ -50,14 +50,14 @@ struct Pair {
 }
 
 // A after words of its own, and the last word drawn for them.
-#[derive(Drop)]
+#[derive(Clone, Copy)]
 struct InPlace {
     registers: Registers,
     random: u64,
 }
 
 // The same of B.
-#[derive(Drop)]
+#[derive(Clone, Copy)]
 struct ByValue {
     state: State,
     random: u64,

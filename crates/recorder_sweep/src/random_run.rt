@@ -22,7 +22,7 @@ use test_support::SEED;
 use trace::codes::flag;
 
 // What was seen, and the last word drawn.
-#[derive(Drop)]
+#[derive(Clone, Copy)]
 struct Tally {
     random: u64,
     bad_starts: u64,
@@ -40,7 +40,7 @@ struct Tally {
 }
 
 // A list under way, but for its entries: whether it started good, and the largest depth code so far.
-#[derive(Drop)]
+#[derive(Clone, Copy)]
 struct List {
     good: bool,
     deepest: u64,

@@ -14,7 +14,7 @@ const TRANSFERS: usize = 4;
 const RETURNS: usize = 2;
 
 // With the switch off, and with it on where nothing comes of them; records; pops.
-#[derive(Drop)]
+#[derive(Clone, Copy)]
 pub(crate) struct Switched {
     off: [u64; KINDS],
     nothing: [u64; KINDS],

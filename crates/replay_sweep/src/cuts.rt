@@ -14,7 +14,7 @@ use trace::runs::replay_in_place;
 
 // A run of one piece: the answer words that it is lent and their pattern, what it gave, the registers
 // before or after it, and what was seen so far.
-#[derive(Drop)]
+#[derive(Clone, Copy)]
 struct Piece {
     first: usize,
     end: usize,

@@ -18,7 +18,7 @@ const LENGTHS: usize = 41;
 const STARTS: u64 = 472;
 
 // Runs under way: the last word drawn, the state that the next one starts from, and what was seen.
-#[derive(Drop)]
+#[derive(Clone, Copy)]
 pub(crate) struct Sweep {
     pub(crate) random: u64,
     pub(crate) state: State,

@@ -11,7 +11,7 @@ use trace::codes::flag;
 // What the runs gave, how often each number was answered, how many runs ended in a bad state, how many
 // words were left as they had been; how many cuts there were, how many of them with 0 from each run,
 // and how many of these ended as the whole run did; and the digest of what each run gave and left.
-#[derive(Drop)]
+#[derive(Clone, Copy)]
 pub(crate) struct Tally {
     runs: u64,
     given: [u64; 10],

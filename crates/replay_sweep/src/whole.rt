@@ -8,7 +8,7 @@ use trace::Replayed;
 use trace::runs::replay;
 
 // What a run is lent and starts from: a state, the pattern of the answer words, and how many of them.
-#[derive(Drop)]
+#[derive(Clone, Copy)]
 pub(crate) struct Trial {
     pub(crate) start: State,
     pub(crate) pattern: u64,
@@ -16,7 +16,7 @@ pub(crate) struct Trial {
 }
 
 // How a run ended: what it gave, and digests of the state and of the answer words.
-#[derive(Drop)]
+#[derive(Clone, Copy)]
 pub(crate) struct End {
     pub(crate) number: u64,
     pub(crate) count: usize,
@@ -25,7 +25,7 @@ pub(crate) struct End {
 }
 
 // A whole run: the state after it, how it ended, and what was seen so far.
-#[derive(Drop)]
+#[derive(Clone, Copy)]
 pub(crate) struct Whole {
     pub(crate) state: State,
     pub(crate) end: End,
