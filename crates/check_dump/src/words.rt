@@ -1,6 +1,5 @@
 // The words of a dump.
-ghost use Rattle.std.specs.Prelude.{◌+◌, ◌≤◌, ◌<◌, length};
-ghost use Rattle.io.specs.Counts.{IsPrefixLen};
+ghost use Rattle.std.specs.Prelude.{◌≡◌, ◌+◌, ◌≤◌, ◌<◌, length, take};
 
 fn widened(byte: u8) -> u64 {
     byte as u64
@@ -29,7 +28,8 @@ fn least(a: usize, b: usize) -> usize
 
 // Puts the words of the input in place, as many as both hold, and answers how many.
 pub(crate) fn put(words: &mut [u64], input: &[u8]) -> usize
-    ensures { IsPrefixLen result words.new }
+    ensures within { result ≤ length words.new }
+    ensures whole { result ≡ length (take result words.new) }
 {
     let count = least(words.len(), input.len() / 8);
     let mut i = 0;

@@ -1,6 +1,5 @@
 -- `classifier_sweep::fill` is safe and ends. Assumes nothing.
 use Rattle.std.proofs.Common.{◌≡◌, ◌-◌, length}
-use Rattle.std.proofs.Common.{◌≡◌, ◌-◌, length}
 use Rattle.classifier_sweep.proofs.fill.Given as goal
 
 abbrev pub invariant-loop-i : goal.invariant-loop-i

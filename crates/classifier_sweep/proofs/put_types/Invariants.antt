@@ -1,6 +1,5 @@
 -- `classifier_sweep::put_types` is safe and ends. Assumes nothing.
 use Rattle.std.proofs.Common.{◌≡◌, ◌≤◌, ◌-◌, length}
-use Rattle.std.proofs.Common.{◌≡◌, ◌-◌, ◌≤◌, length}
 use Rattle.classifier_sweep.proofs.put_types.Given as goal
 
 abbrev pub invariant-loop-k : goal.invariant-loop-k

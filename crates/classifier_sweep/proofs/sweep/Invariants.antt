@@ -1,6 +1,5 @@
 -- `classifier_sweep::sweep` is safe and ends. Assumes nothing.
 use Rattle.std.proofs.Common.{◌-◌}
-use Rattle.std.proofs.Common.{◌-◌}
 use Rattle.classifier_sweep.proofs.sweep.Given as goal
 
 abbrev pub invariant-loop-i : goal.invariant-loop-i

@@ -1,6 +1,5 @@
 -- `classifier_sweep::sweep_runs` is safe and ends. Assumes nothing.
 use Rattle.std.proofs.Common.{◌≡◌, ◌≤◌, ◌-◌, length}
-use Rattle.std.proofs.Common.{◌≡◌, ◌-◌, ◌≤◌, length}
 use Rattle.classifier_sweep.proofs.sweep_runs.Given as goal
 
 abbrev pub invariant-loop-run : goal.invariant-loop-run

@@ -1,6 +1,5 @@
 -- `classifier_sweep::tallied_run` is safe and ends. Assumes nothing.
 use Rattle.std.proofs.Common.{◌-◌, length}
-use Rattle.std.proofs.Common.{◌-◌, length}
 use Rattle.classifier_sweep.proofs.tallied_run.Given as goal
 
 abbrev pub invariant-loop-i : goal.invariant-loop-i

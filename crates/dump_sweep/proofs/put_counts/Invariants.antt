@@ -1,6 +1,5 @@
 -- `dump_sweep::put_counts` is safe and ends. Assumes nothing.
 use Rattle.std.proofs.Common.{◌≡◌, ◌≤◌, ◌-◌, length}
-use Rattle.std.proofs.Common.{◌≡◌, ◌-◌, ◌≤◌, length}
 use Rattle.dump_sweep.proofs.put_counts.Given as goal
 
 abbrev pub invariant-loop-k : goal.invariant-loop-k

@@ -1,6 +1,5 @@
 -- `dump_sweep::run_cases` is safe and ends. Assumes nothing.
 use Rattle.std.proofs.Common.{◌-◌}
-use Rattle.std.proofs.Common.{◌-◌}
 use Rattle.dump_sweep.proofs.run_cases.Given as goal
 
 abbrev pub invariant-loop-i : goal.invariant-loop-i

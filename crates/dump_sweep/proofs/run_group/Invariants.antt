@@ -1,6 +1,5 @@
 -- `dump_sweep::run_group` is safe and ends. Assumes nothing.
 use Rattle.std.proofs.Common.{◌≤◌, ◌-◌}
-use Rattle.std.proofs.Common.{◌-◌, ◌≤◌}
 use Rattle.dump_sweep.proofs.run_group.Given as goal
 
 abbrev pub invariant-loop-k : goal.invariant-loop-k

@@ -1,6 +1,5 @@
 -- `dump_sweep::run_specimen` is safe and ends. Assumes nothing.
 use Rattle.std.proofs.Common.{◌-◌}
-use Rattle.std.proofs.Common.{◌-◌}
 use Rattle.dump_sweep.proofs.run_specimen.Given as goal
 
 abbrev pub invariant-loop-j : goal.invariant-loop-j

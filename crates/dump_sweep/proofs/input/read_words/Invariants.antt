@@ -1,6 +1,5 @@
 -- `dump_sweep::input::read_words` is safe and ends. Assumes nothing.
 use Rattle.std.proofs.Common.{◌≤◌, ◌-◌}
-use Rattle.std.proofs.Common.{◌-◌, ◌≤◌}
 use Rattle.dump_sweep.proofs.input.read_words.Given as goal
 
 abbrev pub invariant-loop-i : goal.invariant-loop-i
