@@ -96,31 +96,31 @@ short_coding n l =
       short_by = (λ q. absurd (omega (arith, q, e)));
     }
 
-long_coding : (n : ℕ) → 2 ^ 12 ≤ n → n < counter_limit → Coding n
-unfolding mantissa_of
-long_coding n l h =
-    let fits : n < 2 ^ 64 = omega (arith, h) in
-    let t = top n (omega (arith, l)) fits in
-    let g = (top_ge n l fits).0 in
-    let k : ℕ = top_bit n - 12 in
-    let e : exponent_of n ≡ k + 1 = long_exponent n l ∙ omega (arith, g) in
-    let z : k + 1 - 1 ≡ k = omega arith in
-    let a : 2 ^ (12 + k) ≤ n = subst (λ (x : ℕ). 2 ^ x ≤ n) (omega (arith, g)) t.reaches in
-    let b : n < 2 ^ (13 + k) = subst (λ (x : ℕ). n < 2 ^ x) (omega (arith, g)) t.passes in
-    record {
-      exponent = omega (arith, e, powers_lt (12 + k) 27 a h);
-      mantissa = omega arith;
-      not_above = rw (e, z) (not_above n k a b);
-      exact = (λ q. absurd (omega (arith, q, e)));
-      short_by = (λ q. rw (e, z) (short_by n k a b));
-    }
-
 pub coding : (n : ℕ) → n < counter_limit → Coding n
+unfolding mantissa_of
 coding n h = go (ltb n (2 ^ 12)) refl
   where
+    long : 2 ^ 12 ≤ n → Coding n
+    long l =
+        let fits : n < 2 ^ 64 = omega (arith, h) in
+        let t = top n (omega (arith, l)) fits in
+        let g = (top_ge n l fits).0 in
+        let k : ℕ = top_bit n - 12 in
+        let e : exponent_of n ≡ k + 1 = long_exponent n l ∙ omega (arith, g) in
+        let z : k + 1 - 1 ≡ k = omega arith in
+        let a : 2 ^ (12 + k) ≤ n = subst (λ (x : ℕ). 2 ^ x ≤ n) (omega (arith, g)) t.reaches in
+        let b : n < 2 ^ (13 + k) = subst (λ (x : ℕ). n < 2 ^ x) (omega (arith, g)) t.passes in
+        record {
+          exponent = omega (arith, e, powers_lt (12 + k) 27 a h);
+          mantissa = omega arith;
+          not_above = rw (e, z) (not_above n k a b);
+          exact = (λ q. absurd (omega (arith, q, e)));
+          short_by = (λ q. rw (e, z) (short_by n k a b));
+        }
+
     go : (b : Bool) → ltb n (2 ^ 12) ≡ b → Coding n
     go true q = short_coding n (ltb-true _ _ q)
-    go false q = long_coding n (ltb-false _ _ q) h
+    go false q = long (ltb-false _ _ q)
 
 -- of any number the code is small enough for ctrdata
 exponent_le : (n : ℕ) → exponent_of n ≤ 52
