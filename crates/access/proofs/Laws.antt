@@ -7,7 +7,7 @@ use native.Mathlib.Nat.{mod-lt, mod-eq_of_lt}
 use native.Mathlib.Omega.{arith}
 use lib.Dec.{ltb}
 use borrow.Author.Tests.{eq-eqb, lt-ltb, le-ltb, le-leb, eqb-false}
-use Rattle.bits.specs.Choice.{if◌then◌else◌}
+use Rattle.std.specs.Prelude.{if◌then◌else◌}
 use Rattle.bits.specs.Words.{keep}
 use Rattle.bits.proofs.Cases.{Known, known}
 use Rattle.bits.proofs.Laws.{keep_keep, keep_joined, keep_of_joined}

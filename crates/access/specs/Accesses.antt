@@ -1,6 +1,6 @@
 -- A register access, SCTRCLR and the host's event, from registers free of number 5; and which entry an access is about.
 use Rattle.std.specs.Prelude.{ℕ, ◌%◌, Bool, true, false}
-use Rattle.bits.specs.Choice.{if◌then◌else◌}
+use Rattle.std.specs.Prelude.{if◌then◌else◌}
 use Rattle.bits.specs.Words.{joined, without}
 use Rattle.machine.specs.Answers.{number_of, is_accepted, refused, accepted, accepted_clear}
 use Rattle.machine.specs.Regs.{with_enables, with_cycles, no_cycles}

@@ -1,6 +1,6 @@
 -- What holds of register accesses. Proved in proofs/.
 use Rattle.std.specs.Prelude.{ℕ, ◌+◌, ◌%◌, min, ◌≡◌, true, eqb}
-use Rattle.bits.specs.Choice.{if◌then◌else◌}
+use Rattle.std.specs.Prelude.{if◌then◌else◌}
 use Rattle.bits.specs.Words.{bit_at, keep}
 use Rattle.machine.specs.Answers.{number_of}
 use Rattle.machine.specs.Controls.{mctrctl_mask, sctrctl_mask}

@@ -1,6 +1,6 @@
 -- What the registers read as.
 use Rattle.std.specs.Prelude.{ℕ, ◌+◌, ◌%◌, ◌^◌, Bool, eqb, ltb}
-use Rattle.bits.specs.Choice.{if◌then◌else◌}
+use Rattle.std.specs.Prelude.{if◌then◌else◌}
 use Rattle.bits.specs.Words.{keep}
 use Rattle.machine.specs.Controls.{sctrctl_mask}
 use Rattle.machine.specs.Entries.{defined_of}

@@ -1,6 +1,6 @@
 -- What a write does to the registers and to the entry in focus.
 use Rattle.std.specs.Prelude.{ℕ, ◌%◌, min, eqb, ltb}
-use Rattle.bits.specs.Choice.{if◌then◌else◌}
+use Rattle.std.specs.Prelude.{if◌then◌else◌}
 use Rattle.bits.specs.Words.{bit_at, keep, joined}
 use Rattle.machine.specs.Controls.{mctrctl_mask, sctrctl_mask, machine_mask}
 use Rattle.machine.specs.Entries.{defined_of}

@@ -2,7 +2,7 @@
 -- table sorted otherwise, as proofs/Sorted.antt and proofs/Switch.antt show. With the switch on a word that has a code of C.FSDSP goes by
 -- fields of its own. Nothing outside this crate cites it.
 use Rattle.std.specs.Prelude.{ℕ, Bool, ◌&&◌, eqb, ltb}
-use Rattle.bits.specs.Choice.{if◌then◌else◌}
+use Rattle.std.specs.Prelude.{if◌then◌else◌}
 use Rattle.bits.specs.Words.{field_at}
 use Rattle.classifier.specs.Instructions.{opcode, rd, funct3, rs1, C·op, C·funct3, C·funct4, C·rs1, CM·funct6, CM·index, CM·funct2, CM·rlist, C·FSDSP}
 use Rattle.classifier.specs.Transfers.{link}

@@ -1,7 +1,7 @@
 -- The instructions that transfer control, by the fields and encodings of the unprivileged manual. A word is 32 bits;
 -- a 16-bit instruction stands in its low half, and its two low bits are not 11.
 use Rattle.std.specs.Prelude.{ℕ, Bool, not, ◌&&◌, eqb}
-use Rattle.bits.specs.Choice.{if◌then◌else◌}
+use Rattle.std.specs.Prelude.{if◌then◌else◌}
 use Rattle.bits.specs.Words.{field_at, is_from_to}
 
 -- fields of a 32-bit instruction: bits 6..0, 11..7, 14..12 and 19..15

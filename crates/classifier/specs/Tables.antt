@@ -2,7 +2,7 @@
 -- that the transfer types do not tell apart have a row in common, high parts a column, and a specimen stands for all words of
 -- a row and column (proofs/Specimens.antt). Nothing outside this crate cites it.
 use Rattle.std.specs.Prelude.{ℕ, ◌+◌, ◌-◌, ◌*◌, ◌/◌, ◌%◌, ◌<◌, ◌≡◌, List, Bool, true, eqb, ltb, get_or}
-use Rattle.bits.specs.Choice.{if◌then◌else◌}
+use Rattle.std.specs.Prelude.{if◌then◌else◌}
 use Rattle.bits.specs.Words.{field_at}
 use Rattle.classifier.specs.Transfers.{transfer_of, type_of}
 

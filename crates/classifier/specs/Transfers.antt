@@ -2,7 +2,7 @@
 -- order, but for type 12, which type 8 excepts; and one for what each of three rows has besides with the switch zc on (T21 to T23), on
 -- a machine with Zcmp and Zcmt.
 use Rattle.std.specs.Prelude.{ℕ, Bool, not, ◌&&◌, ◌||◌, eqb}
-use Rattle.bits.specs.Choice.{if◌then◌else◌}
+use Rattle.std.specs.Prelude.{if◌then◌else◌}
 use Rattle.classifier.specs.Instructions.{rd, rs1, C·rs1, BEQ, BNE, BLT, BGE, BLTU, BGEU, JALR, JAL, C·J, C·BEQZ, C·BNEZ, C·JR, C·JALR, CM·JT, CM·JALT, CM·POPRET, CM·POPRETZ, length_of}
 use Rattle.classifier.specs.declared.Instruction.{Instruction}
 use Rattle.classifier.specs.declared.Transfer.{Transfer}

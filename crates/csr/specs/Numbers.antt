@@ -1,6 +1,6 @@
 -- What a CSR number reaches, and what that register means in a mode.
 use Rattle.std.specs.Prelude.{ℕ, ◌-◌, eqb}
-use Rattle.bits.specs.Choice.{if◌then◌else◌}
+use Rattle.std.specs.Prelude.{if◌then◌else◌}
 use Rattle.bits.specs.Words.{is_from_to}
 use Rattle.machine.specs.Modes.{is_virtual}
 use Rattle.machine.specs.declared.Mode.{Mode}

@@ -1,6 +1,6 @@
 -- The access steps: why an access or SCTRCLR is refused, the first step that applies.
 use Rattle.std.specs.Prelude.{ℕ, Bool, true, false, not, ◌&&◌, ◌||◌}
-use Rattle.bits.specs.Choice.{if◌then◌else◌}
+use Rattle.std.specs.Prelude.{if◌then◌else◌}
 use Rattle.bits.specs.Words.{is_from_to}
 use Rattle.machine.specs.Modes.{is_u, is_m, is_vu, is_vs}
 use Rattle.machine.specs.declared.Registers.{Registers}

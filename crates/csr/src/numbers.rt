@@ -1,6 +1,6 @@
 // What a CSR number reaches, and what that register means in a mode.
 ghost use Rattle.std.specs.Prelude.{◌≡◌};
-ghost use Rattle.bits.specs.Choice.{if◌then◌else◌};
+ghost use Rattle.std.specs.Prelude.{if◌then◌else◌};
 ghost use Rattle.machine.specs.Modes.{is_virtual};
 ghost use Rattle.csr.specs.Numbers.{supervisor_register, guest_register, register_of, view_in, csr_in};
 

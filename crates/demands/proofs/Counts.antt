@@ -8,7 +8,7 @@ use native.Mathlib.Omega.{arith}
 use lib.Dec.{eqb, ltb}
 use lib.Pow.{shr_lt, shr_mono, shl-shr}
 use borrow.Author.Tests.{eqb-true, eqb-false, ltb-false}
-use Rattle.bits.specs.Choice.{if◌then◌else◌}
+use Rattle.std.specs.Prelude.{if◌then◌else◌}
 use Rattle.bits.specs.Words.{bit_at, field_at}
 use Rattle.machine.specs.Modes.{on_of}
 use Rattle.machine.specs.Regs.{with_cycles}

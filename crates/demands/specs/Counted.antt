@@ -1,6 +1,6 @@
 -- The count of an ordinary record: a corollary of demands 1 and 2, of any recorder.
 use Rattle.std.specs.Prelude.{ℕ, suc, ◌+◌, ◌^◌, ◌≤◌, ◌<◌, ◌≡◌}
-use Rattle.bits.specs.Choice.{if◌then◌else◌}
+use Rattle.std.specs.Prelude.{if◌then◌else◌}
 use Rattle.bits.specs.Words.{bit_at, field_at}
 use Rattle.recorder.specs.Entries.{entry_at}
 use Rattle.recorder.specs.Steps.{entries_in, Whole}

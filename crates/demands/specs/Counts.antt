@@ -1,6 +1,6 @@
 -- The count that a record holds (docs/RULES.md, C), said from the papers by itself: how CC is coded, and how it is decoded.
 use Rattle.std.specs.Prelude.{ℕ, zero, suc, ◌+◌, ◌-◌, ◌*◌, ◌/◌, ◌%◌, ◌^◌, eqb, ltb}
-use Rattle.bits.specs.Choice.{if◌then◌else◌}
+use Rattle.std.specs.Prelude.{if◌then◌else◌}
 use Rattle.bits.specs.Words.{bit_at}
 
 -- the index of the top bit that is 1, looked for from bit k down

@@ -1,6 +1,6 @@
 -- Registers (docs/RULES.md, R1 to R16 and R23): what a CSR number reaches, what each register reads as, and the state after a write.
 use Rattle.std.specs.Prelude.{ℕ, zero, suc, ◌+◌, ◌-◌, ◌%◌, ◌<◌, min, ◌≡◌, false, eqb, ltb}
-use Rattle.bits.specs.Choice.{if◌then◌else◌}
+use Rattle.std.specs.Prelude.{if◌then◌else◌}
 use Rattle.bits.specs.Words.{bit_at, keep, joined, without}
 use Rattle.machine.specs.declared.Enables.{Enables}
 use Rattle.machine.specs.declared.Entry.{Entry}

@@ -1,7 +1,7 @@
 -- Whole traces in a call (docs/RULES.md, W), said from the papers by themselves: what a run over rows gives, a constructor a sentence;
 -- that it is given exactly then; that a trace may be cut; and demand 3 over rows.
 use Rattle.std.specs.Prelude.{ℕ, zero, suc, ◌+◌, ◌*◌, ◌≤◌, ◌≡◌, List, [], ◌∷◌, ◌++◌, ◌↔◌, ◌⊎◌, length, drop}
-use Rattle.bits.specs.Choice.{if◌then◌else◌}
+use Rattle.std.specs.Prelude.{if◌then◌else◌}
 use Rattle.machine.specs.declared.Event.{Event}
 use Rattle.recorder.specs.Runs.{Recorder, Answer, answers_to, end_of}
 use Rattle.recorder.specs.Steps.{step_of}

@@ -1,7 +1,7 @@
 -- When a transfer qualifies (docs/RULES.md, Q), as relations: each constructor is a sentence of the papers, and no test comes before
 -- another; what counts in the cycle counter; and what a record, a pop, a swap and a freeze leave behind.
 use Rattle.std.specs.Prelude.{ℕ, zero, suc, ◌+◌, ◌-◌, ◌*◌, ◌/◌, ◌%◌, min, ◌≡◌, Bool, true, false, ◌⊎◌, eqb}
-use Rattle.bits.specs.Choice.{if◌then◌else◌}
+use Rattle.std.specs.Prelude.{if◌then◌else◌}
 use Rattle.classifier.specs.Promise.{word_type}
 use Rattle.machine.specs.declared.Entry.{Entry}
 use Rattle.machine.specs.declared.Mode.{Mode}

@@ -1,7 +1,7 @@
 -- The check of a dump: the word at each valid entry's source, its type, and where it may go (docs/RULES.md, F). The reasons are looked for in
 -- the order of `Reason`.
 use Rattle.std.specs.Prelude.{ℕ, zero, suc, ◌+◌, ◌-◌, ◌*◌, ◌/◌, ◌%◌, ◌^◌, Bool, true, ◌&&◌, ◌||◌, ltb, List, length, ◌==◌, nat_eq, nat_le, nat_lt, slice_index}
-use Rattle.bits.specs.Choice.{if◌then◌else◌}
+use Rattle.std.specs.Prelude.{if◌then◌else◌}
 use Rattle.bits.specs.Words.{bit_at, is_from_to}
 use Rattle.classifier.specs.Instructions.{is16, length_of, JAL, C·J}
 use Rattle.classifier.specs.Transfers.{transfer_of, type_of}

@@ -1,6 +1,6 @@
 -- One of several lines, and how an entry of a history is written.
 use Rattle.std.specs.Prelude.{ℕ, ◌+◌, ◌*◌, ◌/◌, ◌%◌, ◌^◌, List, [], ◌∷◌, eqb}
-use Rattle.bits.specs.Choice.{if◌then◌else◌}
+use Rattle.std.specs.Prelude.{if◌then◌else◌}
 use Rattle.text.specs.Page.{Page, with_byte, written}
 use Rattle.text.specs.Digits.{number, prefix}
 

@@ -1,7 +1,7 @@
 -- What `Edges` states. Assumes nothing.
 use mathlib.Core.Path.{◌≡◌, refl}
 use mathlib.Core.Bool.{Bool, true, false, false≢true}
-use Rattle.bits.specs.Choice.{if◌then◌else◌}
+use Rattle.std.specs.Prelude.{if◌then◌else◌}
 use Rattle.machine.specs.Modes.{is_virtual, control_of, governing_of}
 use Rattle.machine.specs.Edges.{Edges}
 use Rattle.machine.specs.declared.Mode.{Mode}

@@ -1,6 +1,6 @@
 -- The defined bits of an entry.
 use Rattle.std.specs.Prelude.{ℕ, eqb}
-use Rattle.bits.specs.Choice.{if◌then◌else◌}
+use Rattle.std.specs.Prelude.{if◌then◌else◌}
 use Rattle.bits.specs.Words.{keep}
 
 -- the defined bits of ctrdata: CC in 31..16, CCV in 15, TYPE in 3..0

@@ -1,6 +1,6 @@
 -- The privilege modes: which are on for recording, and which control register speaks for a mode or a transition.
 use Rattle.std.specs.Prelude.{Bool, true, false}
-use Rattle.bits.specs.Choice.{if◌then◌else◌}
+use Rattle.std.specs.Prelude.{if◌then◌else◌}
 use Rattle.machine.specs.Controls.{is_set}
 use Rattle.machine.specs.declared.Mode.{Mode}
 use Rattle.machine.specs.declared.Mode.TheVariants.{U, S, M, VU, VS}

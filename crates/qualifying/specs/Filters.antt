@@ -1,6 +1,6 @@
 -- What the control registers say of traps and of transfer types: freezing, external traps, inhibits.
 use Rattle.std.specs.Prelude.{ℕ, Bool, true, false, not, ◌&&◌, ◌||◌, eqb}
-use Rattle.bits.specs.Choice.{if◌then◌else◌}
+use Rattle.std.specs.Prelude.{if◌then◌else◌}
 use Rattle.bits.specs.Words.{is_from_to}
 use Rattle.machine.specs.Controls.{is_set}
 use Rattle.machine.specs.Modes.{is_vu, control_of}

@@ -1,6 +1,6 @@
 -- When a transfer qualifies: what comes of a retired word, a trap and a trap return.
 use Rattle.std.specs.Prelude.{ℕ, Bool, not, ◌&&◌, eqb}
-use Rattle.bits.specs.Choice.{if◌then◌else◌}
+use Rattle.std.specs.Prelude.{if◌then◌else◌}
 use Rattle.machine.specs.Controls.{is_set}
 use Rattle.machine.specs.Modes.{on_of, governing_of}
 use Rattle.machine.specs.declared.Mode.{Mode}

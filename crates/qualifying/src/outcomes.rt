@@ -1,6 +1,6 @@
 // When a transfer qualifies.
 ghost use Rattle.std.specs.Prelude.{◌≡◌, ◌&&◌};
-ghost use Rattle.bits.specs.Choice.{if◌then◌else◌};
+ghost use Rattle.std.specs.Prelude.{if◌then◌else◌};
 ghost use Rattle.machine.specs.Modes.{governing_of};
 ghost use Rattle.qualifying.specs.Filters.{inhibited_of};
 ghost use Rattle.qualifying.specs.Outcomes.{stack_outcome, rasemu_of, on_outcome, live_of, live_outcome, trap_type, trap_by, trap_outcome, return_by, return_outcome};

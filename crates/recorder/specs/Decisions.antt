@@ -1,6 +1,6 @@
 -- What an event decides, given the registers and the entry that it is about.
 use Rattle.std.specs.Prelude.{Bool}
-use Rattle.bits.specs.Choice.{if◌then◌else◌}
+use Rattle.std.specs.Prelude.{if◌then◌else◌}
 use Rattle.machine.specs.Answers.{refused}
 use Rattle.machine.specs.Good.{good_of}
 use Rattle.machine.specs.declared.Registers.{Registers}

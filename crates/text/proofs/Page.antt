@@ -12,7 +12,7 @@ use lib.ListN.{length, take, drop, set, length-set}
 use lib.Seq.{sets, sets-eq}
 use Rattle.std.proofs.Common.{zero-le}
 use borrow.Author.Tests.{ltb-true, lt-ltb, le-ltb}
-use Rattle.bits.specs.Choice.{if◌then◌else◌}
+use Rattle.std.specs.Prelude.{if◌then◌else◌}
 use Rattle.text.specs.Page.{Page, page, with_byte, written}
 
 -- a byte within the page, and one past its end

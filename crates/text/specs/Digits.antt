@@ -1,6 +1,6 @@
 -- Numbers as ASCII digits, and the value of such digits.
 use Rattle.std.specs.Prelude.{ℕ, zero, suc, ◌+◌, ◌-◌, ◌*◌, ◌/◌, ◌%◌, List, [], ◌∷◌, ◌++◌, ltb}
-use Rattle.bits.specs.Choice.{if◌then◌else◌}
+use Rattle.std.specs.Prelude.{if◌then◌else◌}
 
 -- the ASCII code of a digit below 16: 0 to 9, then a to f
 unfoldable pub glyph : ℕ → ℕ

@@ -1,6 +1,6 @@
 -- A buffer that text is written into, one byte after the other. A byte past the end is dropped.
 use Rattle.std.specs.Prelude.{ℕ, ◌+◌, List, [], ◌∷◌, length, set, ltb}
-use Rattle.bits.specs.Choice.{if◌then◌else◌}
+use Rattle.std.specs.Prelude.{if◌then◌else◌}
 
 -- the buffer's bytes, and the place of the next one
 pub record Page : Type 0 where

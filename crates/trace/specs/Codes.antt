@@ -1,6 +1,6 @@
 -- Numbers for modes, operations and bits.
 use Rattle.std.specs.Prelude.{ℕ, Bool, true, false, eqb}
-use Rattle.bits.specs.Choice.{if◌then◌else◌}
+use Rattle.std.specs.Prelude.{if◌then◌else◌}
 use Rattle.machine.specs.declared.Mode.{Mode}
 use Rattle.machine.specs.declared.Mode.TheVariants.{U, S, M, VU, VS}
 use Rattle.machine.specs.declared.Operation.{Operation}

@@ -1,7 +1,7 @@
 -- Rows of a trace: what four words mean. Word 0 has the kind in bits 7..0 and what the kind needs above; any bit that a kind does
 -- not name, and any word that it does not name, is 0. Malformed gives the first word that breaks a rule.
 use Rattle.std.specs.Prelude.{ℕ, ◌/◌, ◌%◌, ◌^◌, Bool, ◌&&◌, eqb, ltb}
-use Rattle.bits.specs.Choice.{if◌then◌else◌}
+use Rattle.std.specs.Prelude.{if◌then◌else◌}
 use Rattle.bits.specs.Words.{bit_at, field_at}
 use Rattle.machine.specs.declared.CsrAccess.{CsrAccess}
 use Rattle.machine.specs.declared.Enables.{Enables}

@@ -1,7 +1,7 @@
 -- A run over the rows of a trace, by recursion on the events done: each event gets the state that the last one handed back, and its
 -- answer two words, number and value.
 use Rattle.std.specs.Prelude.{ℕ, zero, suc, ◌+◌, ◌*◌, ◌/◌, ◌%◌, ◌^◌, Bool, true, false, ◌&&◌, List, eqb, ltb, length, get_or, set}
-use Rattle.bits.specs.Choice.{if◌then◌else◌}
+use Rattle.std.specs.Prelude.{if◌then◌else◌}
 use Rattle.recorder.specs.Entries.{Entries}
 use Rattle.recorder.specs.Steps.{state_of, step_of}
 use Rattle.machine.specs.declared.Registers.{Registers}

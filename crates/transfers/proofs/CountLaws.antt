@@ -8,7 +8,7 @@ use lib.Count.{count_leading_zeros, leading_top}
 use lib.Dec.{ltb}
 use lib.Pow.{pow_pos, pow_mono, pow-add, shr_lt, shr_mono, shl-shr, shl_exact, split}
 use borrow.Author.Tests.{lt-ltb, le-ltb, ltb-true, ltb-false, eq-eqb, ne_eqb}
-use Rattle.bits.specs.Choice.{if◌then◌else◌}
+use Rattle.std.specs.Prelude.{if◌then◌else◌}
 use Rattle.bits.specs.Words.{field_at}
 use Rattle.machine.specs.Good.{counter_limit}
 use Rattle.transfers.specs.Counts.{top_bit, exponent_of, mantissa_of, cc_of, decoded_of}

@@ -1,7 +1,7 @@
 -- The cycle counter as an event finds it and as a record leaves it; and CC, the count that a record holds: an exponent and a mantissa.
 use Rattle.std.specs.Prelude.{ℕ, ◌+◌, ◌-◌, ◌*◌, ◌%◌, ◌^◌, min, Bool, not, eqb, ltb}
 use Rattle.std.specs.Int.Count.{count_leading_zeros}
-use Rattle.bits.specs.Choice.{if◌then◌else◌}
+use Rattle.std.specs.Prelude.{if◌then◌else◌}
 use Rattle.bits.specs.Words.{field_at}
 use Rattle.machine.specs.Good.{counter_limit}
 use Rattle.machine.specs.Regs.{with_cycles, no_cycles}

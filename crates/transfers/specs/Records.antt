@@ -1,6 +1,6 @@
 -- What a record, a pop and a swap make of an entry and of WRPTR.
 use Rattle.std.specs.Prelude.{ℕ, ◌+◌, ◌*◌, ◌/◌, ◌%◌, Bool}
-use Rattle.bits.specs.Choice.{if◌then◌else◌}
+use Rattle.std.specs.Prelude.{if◌then◌else◌}
 use Rattle.machine.specs.Modes.{on_of}
 use Rattle.machine.specs.Regs.{with_wrptr}
 use Rattle.machine.specs.Depths.{depth_of, physical_of}

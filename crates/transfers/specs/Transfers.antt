@@ -1,6 +1,6 @@
 -- Retired words, traps and trap returns, from registers free of number 5, given the entry in focus.
 use Rattle.std.specs.Prelude.{ℕ, ◌%◌, Bool, false}
-use Rattle.bits.specs.Choice.{if◌then◌else◌}
+use Rattle.std.specs.Prelude.{if◌then◌else◌}
 use Rattle.machine.specs.Answers.{value_of, refused, accepted, accepted_put}
 use Rattle.machine.specs.Regs.{with_mode, with_frozen, with_cycles}
 use Rattle.machine.specs.Depths.{depth_of, physical_of}

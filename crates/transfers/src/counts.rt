@@ -1,6 +1,6 @@
 // The cycle counter as an event finds it and as a record leaves it, and the count that a record holds.
 ghost use Rattle.std.specs.Prelude.{◌≡◌, ◌+◌, ◌-◌, ◌*◌, ◌^◌, ◌≤◌, ◌<◌, min, ltb};
-ghost use Rattle.bits.specs.Choice.{if◌then◌else◌};
+ghost use Rattle.std.specs.Prelude.{if◌then◌else◌};
 ghost use Rattle.machine.specs.Good.{counter_limit};
 ghost use Rattle.machine.specs.Regs.{with_cycles};
 ghost use Rattle.transfers.specs.Counts.{counted, restarted, live_cycles, cycles_of, tallied, top_bit, exponent_of, mantissa_of, cc_of, decoded_of, decoded_in, stamped};
