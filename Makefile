@@ -7,23 +7,26 @@ STATICLIB = target/staticlib/libclassifier.a
 # what a command prints is shown only if it fails
 quietly = mkdir -p target && { $(1) >target/make.log 2>&1 || { cat target/make.log; exit 1; }; }
 
+# a program in target/bin: it is proved, built and run once, with no argument and no input
+built = (cd crates/$(1) && rt run </dev/null) && mkdir -p target/bin && cp crates/$(1)/out/$(1) target/bin/$(1)
+
 .PHONY: help demo test check-cli examples bench every-word expected archive program
 
 help: ## list the targets
 	@sed -n 's/^\([a-z-]*\):.*## /\1\t/p' Makefile | expand -t 12
 
 demo: program ## replay a sample trace, print its branch history and check it (proves first: some five minutes)
-	@$(call quietly,rt check check_dump)
+	@$(call quietly,$(call built,check_dump))
 	@mkdir -p target/demo
 	@sh examples/demo.sh target/bin/replay target/bin/check_dump target/demo
 
 test: ## prove everything and run every test: the gate
 	@scripts/demands-imports
 	@cd model && $(CARGO) test --release --offline
-	@rt ci
+	@scripts/gate
 
 check-cli: program ## hold arguments, output and complaints of replay, classify and check_dump to the model's
-	@$(call quietly,rt check classify check_dump)
+	@$(call quietly,$(call built,classify) && $(call built,check_dump))
 	@cd model && $(CARGO) test --release --offline --quiet --test check_cli -- --ignored
 
 examples: archive ## build and run the C and the Rust program of examples/
@@ -34,7 +37,7 @@ examples: archive ## build and run the C and the Rust program of examples/
 	@echo "Rust:" && target/examples/classify_rs
 
 bench: archive program ## time the classifier, replay and single steps beside Rust programs
-	@$(call quietly,rt check step_bench)
+	@$(call quietly,$(call built,step_bench))
 	@$(call quietly,(cd bench && $(CARGO) test --release --offline))
 	@cd bench && $(CARGO) build --release --offline --quiet
 	@cd bench && target/release/bench
@@ -49,7 +52,7 @@ expected: ## write the programs' expected output anew, from the model
 
 program:
 	@echo "Proving and building replay (about five minutes, nothing if it is built already) ..."
-	@$(call quietly,rt check replay)
+	@$(call quietly,$(call built,replay))
 
 archive:
-	@$(call quietly,rt staticlib classifier)
+	@$(call quietly,(cd crates/classifier_c && rt lib) && mkdir -p target/staticlib && cp crates/classifier_c/out/libclassifier_c.a $(STATICLIB))
