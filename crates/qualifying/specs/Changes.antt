@@ -1,5 +1,5 @@
 -- Which mode changes are possible.
-use Rattle.std.specs.Prelude.{Bool, true, false, not}
+use Rattle.std.specs.Prelude.{ℕ, Bool, true, false, not, ltb}
 use Rattle.machine.specs.Modes.{is_virtual, is_m}
 use Rattle.machine.specs.declared.Mode.{Mode}
 use Rattle.machine.specs.declared.Mode.TheVariants.{U, S, M, VU, VS}
@@ -15,3 +15,7 @@ possible_trap source VU = false
 -- a return goes the way that a trap could have come
 abbrev pub possible_return : Mode → Mode → Bool
 possible_return source target = possible_trap target source
+
+-- a trap's cause; those from 64 up are of corrupt traces. No rule asks this yet
+abbrev pub possible_cause : ℕ → Bool
+possible_cause cause = ltb cause 64

@@ -1,6 +1,6 @@
 // Which mode changes are possible.
 ghost use Rattle.std.specs.Prelude.{◌≡◌};
-ghost use Rattle.qualifying.specs.Changes.{possible_trap, possible_return};
+ghost use Rattle.qualifying.specs.Changes.{possible_trap, possible_return, possible_cause};
 
 use machine::Mode;
 use machine::modes::{is_m, is_virtual};
@@ -22,4 +22,11 @@ pub fn possible_return(source: Mode, target: Mode) -> bool
     ensures { result ≡ possible_return source target }
 {
     possible_trap(target, source)
+}
+
+// Causes from 64 up are of corrupt traces. No rule asks this yet.
+pub fn possible_cause(cause: u64) -> bool
+    ensures { result ≡ possible_cause cause }
+{
+    cause < 64
 }

@@ -27,6 +27,10 @@ unfoldable pub numbered_lines : Page → List ℕ → List ℕ → ℕ → Page
 numbered_lines p name counts zero = p
 numbered_lines p name counts (suc n) = numbered_line (numbered_lines p name counts n) name n (get_or counts n 0)
 
+-- how often each number was answered: those from 0 up, then 8
+unfoldable pub number_lines : Page → List ℕ → List ℕ → ℕ → Page
+number_lines p name counts eights = numbered_line (numbered_lines p name counts (length counts)) name 8 eights
+
 -- a count behind a space, and the first n counts so
 unfoldable pub cell : Page → ℕ → Page
 cell p count = written (with_byte p space) (number 10 20 count)

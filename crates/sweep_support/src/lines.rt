@@ -1,7 +1,7 @@
 // Lines of a name and a number. Each function writes at a place and answers the next one.
 ghost use Rattle.std.specs.Prelude.{◌≡◌, length};
 ghost use Rattle.text.specs.Page.{page};
-ghost use Rattle.sweep_support.specs.Lines.{word_line, count_line, numbered_line, numbered_lines, cell, row_line};
+ghost use Rattle.sweep_support.specs.Lines.{word_line, count_line, numbered_line, numbered_lines, number_lines, cell, row_line};
 
 // A name, and a word in hexadecimal.
 pub fn put_word(out: &mut [u8], at: usize, name: &[u8], w: u64) -> usize
@@ -41,6 +41,14 @@ pub fn put_counts(out: &mut [u8], at: usize, name: &[u8], counts: &[u64]) -> usi
         k += 1;
     }
     next
+}
+
+// How often each number was answered: those from 0 up, then 8.
+pub fn put_numbers(out: &mut [u8], at: usize, name: &[u8], counts: &[u64], eights: u64) -> usize
+    ensures { page result out.new ≡ number_lines (page at out.old) name.now counts.now eights }
+{
+    let next = put_counts(out, at, name, counts);
+    put_numbered(out, next, name, 8, eights)
 }
 
 // A count behind a space.
