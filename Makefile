@@ -5,7 +5,7 @@ CFLAGS ?= -O2 -Wall -Wextra
 STATICLIB = target/staticlib/libclassifier.a
 
 # what a command prints is shown only if it fails
-quietly = mkdir -p target && { $(1) >target/make.log 2>&1 || { cat target/make.log; exit 1; }; }
+quietly = mkdir -p target && { { $(1); } >target/make.log 2>&1 || { cat target/make.log; exit 1; }; }
 
 # a program in target/bin: it is proved, built and run once, with no argument and no input
 built = (cd crates/$(1) && rt run </dev/null) && mkdir -p target/bin && cp crates/$(1)/out/$(1) target/bin/$(1)
