@@ -52,7 +52,7 @@ fn run() -> io::Result<()> {
     let program = Path::new(env!("CARGO_MANIFEST_DIR")).join("../target/bin/step_bench");
     if !program.is_file() {
         return Err(io::Error::other(
-            "step_bench is missing, which `rt check step_bench` builds",
+            "step_bench is missing, which `make bench` builds",
         ));
     }
     let mut best = [f64::INFINITY; FORMS.len()];

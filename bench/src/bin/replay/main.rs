@@ -69,7 +69,7 @@ fn sides(root: &Path, folder: &Path) -> io::Result<Vec<Side>> {
         None => root.join("target/bin/replay"),
     };
     let rust = env::current_exe()?.with_file_name("replay_rust");
-    let mut sides = vec![side("ours", built(ours, "rt check replay")?)];
+    let mut sides = vec![side("ours", built(ours, "make program")?)];
     if let Some(path) = env::var_os("BEFORE") {
         sides.push(side("before", path.into()));
     }
