@@ -15,7 +15,7 @@ built = (cd crates/$(1) && rt run </dev/null) && mkdir -p target/bin && cp crate
 help: ## list the targets
 	@sed -n 's/^\([a-z-]*\):.*## /\1\t/p' Makefile | expand -t 12
 
-demo: program ## replay a sample trace, print its branch history and check it (proves first: some five minutes)
+demo: program ## replay a sample trace, print its branch history and check it (proves first: some minutes)
 	@$(call quietly,$(call built,check_dump))
 	@mkdir -p target/demo
 	@sh examples/demo.sh target/bin/replay target/bin/check_dump target/demo
@@ -51,7 +51,7 @@ expected: ## write the programs' expected output anew, from the model
 	@cd model && $(CARGO) run --release --offline --quiet --bin expected -- --write
 
 program:
-	@echo "Proving and building replay (about five minutes, nothing if it is built already) ..."
+	@echo "Proving and building replay (some minutes, nothing if it is built already) ..."
 	@$(call quietly,$(call built,replay))
 
 archive:
