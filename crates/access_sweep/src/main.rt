@@ -12,6 +12,7 @@ use machine::{
     Buffer, ControlWords, CsrAccess, Cycles, Decision, Effect, Enables, Entry, Mode, Registers,
     Selects, Verdict,
 };
+use std::io;
 use sweep_support::digests::{digest_answer, digest_entry, digest_registers};
 use sweep_support::lines::{put_counts, put_word};
 use test_support::{SEED, digest, xorshift64};
@@ -312,7 +313,7 @@ fn report_mode(rt: &impl Print, name: &[u8], mode: Mode) {
     at = put_word(&mut out, at, b"  answers 0x", run.answers);
     at = put_word(&mut out, at, b"  registers 0x", run.registers);
     at = put_word(&mut out, at, b"  entries 0x", run.entries);
-    console::print(rt, text::before(&out, at));
+    console::write(&mut io::writer(rt), text::before(&out, at));
 }
 
 // The places of all logical entries under one WRPTR.
@@ -344,7 +345,7 @@ fn report_depth(rt: &impl Print, code: u64) {
     let mut at = text::put(&mut out, 0, b"  depth ");
     at = text::put_decimal(&mut out, at, machine::depths::depth(code));
     at = put_word(&mut out, at, b" 0x", all_places(code));
-    console::print(rt, text::before(&out, at));
+    console::write(&mut io::writer(rt), text::before(&out, at));
 }
 
 fn main(rt: HostRuntime) {
@@ -353,7 +354,7 @@ fn main(rt: HostRuntime) {
     report_mode(&rt, b"mode M\n", Mode::M);
     report_mode(&rt, b"mode VU\n", Mode::VU);
     report_mode(&rt, b"mode VS\n", Mode::VS);
-    console::print(&rt, b"logical entries\n");
+    console::write(&mut io::writer(&rt), b"logical entries\n");
     report_depth(&rt, 0);
     report_depth(&rt, 1);
     report_depth(&rt, 2);

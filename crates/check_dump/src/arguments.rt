@@ -32,7 +32,7 @@ pub(crate) fn read(rt: &(impl Env + Complain), i: usize, buffer: &mut [u8]) -> F
             is_whole: true,
         },
         Err(error) => {
-            console::fail(rt, b"check_dump: an argument", error);
+            console::fail(&mut rt.complaints(), b"check_dump: an argument", error);
             Filled {
                 count: 0,
                 is_whole: false,

@@ -14,10 +14,11 @@ use arguments::unexpected;
 use console::Complain;
 use std::env::Env;
 use std::fs::Files;
+use std::io;
 
 fn print_usage(rt: &impl Print) {
-    console::print(
-        rt,
+    console::write(
+        &mut io::writer(rt),
         b"usage: check_dump [--zc] IMAGE BASE DUMP\nChecks a dump of entries against firmware: accepted if every valid entry fits, else the first that does not, and why.\n  --zc  with table jumps and pop-returns (Zcmt and Zcmp) switched on\nIMAGE is a file of code, at most 4194304 bytes, and BASE the address of its first byte, in hex with 0x or in decimal. DUMP is a file of little-endian 64-bit words, ctrsource, ctrtarget and ctrdata of each entry, newest first, at most 4096 entries.\n",
     );
 }

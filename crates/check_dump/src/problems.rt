@@ -14,11 +14,11 @@ fn put_file(line: &mut [u8], name: &[u8]) -> usize {
 pub(crate) fn unreadable(rt: &impl Complain, name: &[u8], error: io::Error) {
     let mut line = [0u8; LONGEST];
     let at = put_file(&mut line, name);
-    console::fail(rt, text::before(&line, at), error);
+    console::fail(&mut rt.complaints(), text::before(&line, at), error);
 }
 
 fn write_line(rt: &impl Complain, line: &[u8], at: usize) {
-    console::tell(rt, text::before(line, at));
+    console::write(&mut rt.complaints(), text::before(line, at));
 }
 
 // Words, and a number after them.

@@ -58,6 +58,6 @@ pub(crate) fn print(rt: &(impl Print + Complain), c: Checked, entries: &[u64]) {
     let mut at = put_checked(&mut out, c, entries);
     at = text::put_byte(&mut out, at, b'\n');
     if let Err(error) = rt.write_all(text::before(&out, at)) {
-        console::fail(rt, b"check_dump: standard output", error);
+        console::fail(&mut rt.complaints(), b"check_dump: standard output", error);
     }
 }

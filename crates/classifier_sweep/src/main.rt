@@ -4,6 +4,7 @@
 #![tactic(auto)]
 
 use classifier::exports::{ctr_classify, ctr_classify_all, ctr_length};
+use std::io;
 use std::num::{wrapping_add_u32, wrapping_add_u64, wrapping_sub_u64};
 use test_support::{SEED, digest, xorshift64};
 
@@ -198,7 +199,7 @@ fn report(rt: &impl Print, name: &[u8], zc: bool, t: Tally) {
     at = text::put(&mut out, at, b"  digest 0x");
     at = text::put_hex(&mut out, at, t.digest, 16);
     at = text::put_byte(&mut out, at, b'\n');
-    console::print(rt, text::before(&out, at));
+    console::write(&mut io::writer(rt), text::before(&out, at));
 }
 
 fn report_all(rt: &impl Print, zc: bool) {

@@ -121,14 +121,14 @@ fn print_block(
     let block = console::fill(from, input);
     let count = block.count;
     if let Err(error) = print_words(rt, text::before(input, count), words, types, out, zc) {
-        console::fail(rt, b"classify: standard output", error);
+        console::fail(&mut rt.complaints(), b"classify: standard output", error);
         return false;
     }
     if count % 4 != 0 {
-        console::print(rt, b"incomplete word\n");
+        console::write(&mut io::writer(rt), b"incomplete word\n");
     }
     if let Some(error) = block.error {
-        console::fail(rt, b"classify: standard input", error);
+        console::fail(&mut rt.complaints(), b"classify: standard input", error);
         return false;
     }
     count == input.len()
@@ -157,7 +157,7 @@ fn tell_unknown(rt: &impl Complain, argument: &[u8]) {
     let mut at = text::put(&mut line, 0, b"classify: unknown argument ");
     at = text::put(&mut line, at, argument);
     at = text::put_byte(&mut line, at, b'\n');
-    console::tell(rt, text::before(&line, at));
+    console::write(&mut rt.complaints(), text::before(&line, at));
 }
 
 // The options with one argument read.
@@ -197,8 +197,8 @@ fn read_options(rt: &(impl Env + Complain), count: usize) -> Options {
 }
 
 fn print_usage(rt: &impl Print) {
-    console::print(
-        rt,
+    console::write(
+        &mut io::writer(rt),
         b"usage: classify [--zc] <WORDS\nPrints a line for each instruction word: the word, the number of its transfer type (a branch as taken) and the type's name.\n  --zc  with table jumps and pop-returns (Zcmt and Zcmp) switched on\nThe words are little-endian, 32 bits each, a 16-bit instruction in the low half.\n",
     );
 }

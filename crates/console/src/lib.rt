@@ -2,23 +2,26 @@
 // standard input, files by their names, arguments, and lines that say why something failed.
 #![tactic(auto)]
 
-ghost use Rattle.std.specs.Prelude.{◌≡◌, ◌<◌, ◌≤◌, length, take, IfOk, IsNone};
-ghost use Rattle.std.specs.Io.KnownBytes.{Consumes, IsAtEnd};
+ghost use Rattle.std.specs.Prelude.{◌≡◌, ◌&&◌, ◌<◌, ◌≤◌, length, take, IfOk, IsErrAnd, IsNone, IsTrue, IsUtf8};
+ghost use Rattle.std.specs.Io.KnownBytes.{Appends, Consumes, IsAtEnd};
+ghost use Rattle.std.specs.IoError.{error_kind};
+ghost use Rattle.console.specs.Complaints.{AppendsComplaint};
 
 use std::env::{Env, FillError};
 use std::fs::{self, Files};
 use std::io;
 use std::io::{ErrorKind, Read, Write};
+use std::rt::Stderr;
 use text::before;
 
-// Standard error, for bytes that need not be text.
+// What has a standard error, for bytes that need not be text.
 pub trait Complain {
-    fn complain(&self, bytes: &[u8]) -> io::Result<()>;
+    fn complaints(&self) -> Stderr;
 }
 
 impl Complain for HostRuntime {
-    fn complain(&self, bytes: &[u8]) -> io::Result<()> {
-        Print::write_all(&self.stderr(), bytes)
+    fn complaints(&self) -> Stderr {
+        self.stderr()
     }
 }
 
@@ -51,14 +54,11 @@ pub fn large_buffer() -> [u8; 65536]
     [0; 65536]
 }
 
-// Writes all bytes to standard output, and says whether they were written.
-pub fn print(rt: &impl Print, bytes: &[u8]) -> bool {
-    rt.write_all(bytes).is_ok()
-}
-
-// Writes all bytes to standard error, and says whether they were written.
-pub fn tell(rt: &impl Complain, bytes: &[u8]) -> bool {
-    rt.complain(bytes).is_ok()
+// Writes all bytes, and says whether they were written.
+pub fn write<W: Write>(to: &mut W, bytes: &[u8]) -> bool
+    ensures { IsTrue result → Appends (W.contents to.old) (W.contents to.new) bytes.now }
+{
+    to.write_all(bytes).is_ok()
 }
 
 // Reads until the buffer is full, the input ends or a read fails.
@@ -84,7 +84,10 @@ pub fn fill<R: Read>(from: &mut R, buf: &mut [u8]) -> Filled
 }
 
 // The file of this name, to be read. One that is no text names no file.
-pub fn open<R: Files>(rt: &R, name: &[u8]) -> io::Result<R::File> {
+pub fn open<R: Files>(rt: &R, name: &[u8]) -> io::Result<R::File>
+    ensures text { IfOk result (λ _. IsUtf8 name.now) }
+    ensures no_text { (IsUtf8 name.now → ⊥) → IsErrAnd result (λ e. error_kind e ≡ ErrorKind.InvalidFilename) }
+{
     match std::str::from_utf8(name) {
         Ok(path) => fs::open(rt, path),
         Err(_) => Err(io::Error::from(ErrorKind::InvalidFilename)),
@@ -129,8 +132,10 @@ fn put_error(buf: &mut [u8], error: io::Error) -> usize {
     most.saturating_sub(rest.len())
 }
 
-// A line on standard error: what failed, a colon and the system's words for why.
-pub fn fail(rt: &impl Complain, what: &[u8], error: io::Error) {
+// A line: what failed, a colon and the system's words for why. Says whether it was written.
+pub fn fail<W: Write>(to: &mut W, what: &[u8], error: io::Error) -> bool
+    ensures { IsTrue result → AppendsComplaint (W.contents to.old) (W.contents to.new) what.now }
+{
     let mut words = [0u8; LONGEST];
     let count = put_error(&mut words, error);
     let shown = before(&words, count);
@@ -139,8 +144,22 @@ pub fn fail(rt: &impl Complain, what: &[u8], error: io::Error) {
     } else {
         count
     };
-    tell(rt, what);
-    tell(rt, b": ");
-    tell(rt, before(shown, end));
-    tell(rt, b"\n");
+    write_line(to, what, before(shown, end))
+}
+
+fn both(a: bool, b: bool) -> bool
+    ensures { result ≡ (a && b) }
+{
+    a && b
+}
+
+// What, a colon, words and the end of a line, each written whatever became of those before it.
+fn write_line<W: Write>(to: &mut W, what: &[u8], words: &[u8]) -> bool
+    ensures { IsTrue result → AppendsComplaint (W.contents to.old) (W.contents to.new) what.now }
+{
+    let named = write(to, what);
+    let parted = write(to, b": ");
+    let told = write(to, words);
+    let ended = write(to, b"\n");
+    both(both(named, parted), both(told, ended))
 }

@@ -13,6 +13,7 @@ mod tally;
 
 use cases::{Setting, case_count, run_case};
 use input::{SPECIMENS, WORDS};
+use std::io;
 use std::num::wrapping_add_u64;
 use tally::{ANSWERS, Tally, none_after};
 
@@ -119,7 +120,7 @@ fn report(rt: &impl Print, words: &[u64; WORDS], name: &[u8], group: u64, digest
     let mut at = text::put(&mut out, 0, name);
     let counts = t.counts;
     at = put_counts(&mut out, at, counts);
-    console::print(rt, text::before(&out, at));
+    console::write(&mut io::writer(rt), text::before(&out, at));
     t.digest
 }
 
@@ -128,13 +129,16 @@ fn report_digest(rt: &impl Print, digest: u64) {
     let mut at = text::put(&mut out, 0, b"digest 0x");
     at = text::put_hex(&mut out, at, digest, 16);
     at = text::put_byte(&mut out, at, b'\n');
-    console::print(rt, text::before(&out, at));
+    console::write(&mut io::writer(rt), text::before(&out, at));
 }
 
 fn main(rt: HostRuntime) {
     let mut words = [0u64; WORDS];
     input::read_words(&rt, &mut words);
-    console::print(&rt, b"group accepted outside cut-off type target 6 11\n");
+    console::write(
+        &mut io::writer(&rt),
+        b"group accepted outside cut-off type target 6 11\n",
+    );
     let mut h = report(&rt, &words, b"good", 0, 0);
     h = report(&rt, &words, b"types", 1, h);
     h = report(&rt, &words, b"source-bits", 2, h);

@@ -2,6 +2,7 @@
 use machine::{CsrAccess, Enables, Event, Mode, Operation, RetiredWord, ReturnTo, TrapTo};
 use recorder::State;
 use recorder::steps::{reset, step};
+use std::io;
 
 const SCTRCTL: u64 = 0x14E;
 
@@ -113,7 +114,7 @@ fn line(rt: &impl Print, name: &[u8], s: State, e: Event) {
     at = text::put(&mut out, at, b": number ");
     at = text::put_decimal(&mut out, at, t.number);
     at = sweep_support::lines::put_word(&mut out, at, b" value 0x", t.value);
-    console::print(rt, text::before(&out, at));
+    console::write(&mut io::writer(rt), text::before(&out, at));
 }
 
 fn enables(rt: &impl Print) {
@@ -337,7 +338,7 @@ fn closed_windows(rt: &impl Print) {
 }
 
 pub(crate) fn report(rt: &impl Print) {
-    console::print(rt, b"bench lines\n");
+    console::write(&mut io::writer(rt), b"bench lines\n");
     enables(rt);
     selections(rt);
     controls(rt);

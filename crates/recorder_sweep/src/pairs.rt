@@ -10,6 +10,7 @@ use machine::good::is_good;
 use machine::{Event, Registers};
 use recorder::steps::{step, step_in_place};
 use recorder::{ENTRIES, State};
+use std::io;
 use std::num::wrapping_add_u64;
 use sweep_support::digests::digest_answer;
 use sweep_support::lines::{put_count, put_word};
@@ -350,5 +351,5 @@ pub(crate) fn report(rt: &impl Print) {
     at = put_count(&mut out, at, b"  end states unequal ", t.end_states_unequal);
     at = put_word(&mut out, at, b"  answers 0x", t.answers);
     at = put_word(&mut out, at, b"  end states 0x", t.end_states);
-    console::print(rt, text::before(&out, at));
+    console::write(&mut io::writer(rt), text::before(&out, at));
 }

@@ -14,6 +14,7 @@ use machine::good::is_good;
 use machine::{Buffer, Event, Mode, Registers};
 use recorder::ENTRIES;
 use recorder::steps::step_in_place;
+use std::io;
 use std::num::wrapping_add_u64;
 use sweep_support::digests::digest_answer;
 use sweep_support::lines::{put_count, put_counts, put_word};
@@ -297,5 +298,5 @@ pub(crate) fn report(rt: &impl Print) {
     );
     at = put_word(&mut out, at, b"  answers 0x", t.answers);
     at = put_word(&mut out, at, b"  states 0x", t.states);
-    console::print(rt, text::before(&out, at));
+    console::write(&mut io::writer(rt), text::before(&out, at));
 }

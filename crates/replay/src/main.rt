@@ -13,6 +13,7 @@ mod runs;
 use console::Complain;
 use std::env::Env;
 use std::fs::Files;
+use std::io;
 use text::is_same;
 
 // What an argument before the traces is.
@@ -109,8 +110,8 @@ fn read_options(rt: &(impl Env + Complain), count: usize) -> Options {
 }
 
 fn print_usage(rt: &impl Print) {
-    console::print(
-        rt,
+    console::write(
+        &mut io::writer(rt),
         b"usage: replay [--answers] [--state] [--zc] TRACE...\n       replay --dump [--zc] TRACE\nReplays traces of events through the recorder, each from reset, and prints what it recorded.\n  --answers  first the answer to each event: its number, and its value in hex\n  --state    last all physical entries: index, ctrsource, ctrtarget and ctrdata\n  --zc       from a reset with table jumps and pop-returns (Zcmt and Zcmp) switched on\n  --dump     the entries alone, as check_dump takes them: ctrsource, ctrtarget and ctrdata of each up to the depth, newest first\nA trace is a file of little-endian 64-bit words, four to an event.\n",
     );
 }
@@ -127,7 +128,7 @@ fn run_argument(
     match console::arg(rt, i, &mut buffer) {
         Ok(length) => runs::replay(rt, out, at, text::before(&buffer, length), o),
         Err(error) => {
-            console::fail(rt, b"replay: a trace's name", error);
+            console::fail(&mut rt.complaints(), b"replay: a trace's name", error);
             at
         }
     }

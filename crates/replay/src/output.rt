@@ -16,7 +16,7 @@ pub(crate) fn flush(rt: &(impl Print + Complain), out: &[u8], at: usize) -> usiz
     match rt.write_all(text::before(out, at)) {
         Ok(()) => 0,
         Err(error) => {
-            console::fail(rt, b"replay: standard output", error);
+            console::fail(&mut rt.complaints(), b"replay: standard output", error);
             CLOSED
         }
     }

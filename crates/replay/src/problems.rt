@@ -14,11 +14,11 @@ fn put_file(line: &mut [u8], name: &[u8]) -> usize {
 pub(crate) fn unreadable(rt: &impl Complain, name: &[u8], error: io::Error) {
     let mut line = [0u8; LONGEST];
     let at = put_file(&mut line, name);
-    console::fail(rt, text::before(&line, at), error);
+    console::fail(&mut rt.complaints(), text::before(&line, at), error);
 }
 
 fn write_line(rt: &impl Complain, line: &[u8], at: usize) {
-    console::tell(rt, text::before(line, at));
+    console::write(&mut rt.complaints(), text::before(line, at));
 }
 
 // Words, and a number after them.
@@ -72,13 +72,16 @@ pub(crate) fn unknown_flag(rt: &impl Complain, flag: &[u8]) {
 }
 
 pub(crate) fn no_trace(rt: &impl Complain) {
-    console::tell(rt, b"replay: no trace given\n");
+    console::write(&mut rt.complaints(), b"replay: no trace given\n");
 }
 
 pub(crate) fn dump_and_text(rt: &impl Complain) {
-    console::tell(rt, b"replay: --dump goes without --answers and --state\n");
+    console::write(
+        &mut rt.complaints(),
+        b"replay: --dump goes without --answers and --state\n",
+    );
 }
 
 pub(crate) fn dump_of_several(rt: &impl Complain) {
-    console::tell(rt, b"replay: --dump takes one trace\n");
+    console::write(&mut rt.complaints(), b"replay: --dump takes one trace\n");
 }

@@ -3,6 +3,7 @@ use crate::answer_words::{ROOM, digest_answers, kept};
 use machine::Registers;
 use machine::answers::number_index;
 use machine::good::is_good;
+use std::io;
 use std::num::{wrapping_add_u64, wrapping_add_usize};
 use sweep_support::digests::digest_answer;
 use sweep_support::lines::{put_count, put_counts, put_numbered, put_word};
@@ -128,5 +129,5 @@ pub(crate) fn report(rt: &impl Print, t: Tally) {
     at = put_count(&mut out, at, b"  words kept ", t.kept);
     at = put_cuts(&mut out, at, t);
     at = put_word(&mut out, at, b"  digest 0x", t.digest);
-    console::print(rt, text::before(&out, at));
+    console::write(&mut io::writer(rt), text::before(&out, at));
 }

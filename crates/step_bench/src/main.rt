@@ -7,6 +7,7 @@ use machine::{CsrAccess, Event, Operation, RetiredWord};
 use recorder::State;
 use recorder::kinds::retire;
 use recorder::steps::{reset, step, step_in_place};
+use std::io;
 use sweep_support::digests::digest_answer;
 use sweep_support::lines::put_word;
 use sweep_support::states::{digest_state, digest_value};
@@ -93,7 +94,7 @@ fn run_by_kind() -> u64 {
 fn report(rt: &impl Print, name: &[u8], digest: u64) {
     let mut out = [0u8; 64];
     let at = put_word(&mut out, 0, name, digest);
-    console::print(rt, text::before(&out, at));
+    console::write(&mut io::writer(rt), text::before(&out, at));
 }
 
 fn run_round(rt: &impl Print, byte: u8) {

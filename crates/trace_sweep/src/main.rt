@@ -4,6 +4,7 @@
 #![tactic(auto)]
 
 use machine::{CsrAccess, Enables, Event, RetiredWord, ReturnTo, TrapTo};
+use std::io;
 use std::num::wrapping_add_u64;
 use sweep_support::lines::{put_count, put_counts, put_word};
 use test_support::digest;
@@ -196,5 +197,5 @@ fn main(rt: HostRuntime) {
     at = put_counts(&mut out, at, b"  kind ", &kinds);
     at = put_counts(&mut out, at, b"  broken in word ", &broken);
     at = put_word(&mut out, at, b"  digest 0x", t.digest);
-    console::print(&rt, text::before(&out, at));
+    console::write(&mut io::writer(&rt), text::before(&out, at));
 }
