@@ -7,11 +7,12 @@ use native.Mathlib.Nat.{mod-lt, mod-eq_of_lt}
 use native.Mathlib.Omega.{arith}
 use lib.Dec.{ltb}
 use borrow.Author.Tests.{eq-eqb, lt-ltb, le-ltb, le-leb, eqb-false}
+use Rattle.std.specs.Prelude.{Ok, Err}
 use Rattle.std.specs.Prelude.{if◌then◌else◌}
 use Rattle.bits.specs.Words.{keep}
 use Rattle.bits.proofs.Cases.{Known, known}
 use Rattle.bits.proofs.Laws.{keep_keep, keep_joined, keep_of_joined}
-use Rattle.machine.specs.Answers.{number_of, is_accepted, refused, accepted, accepted_clear}
+use Rattle.machine.specs.Answers.{Verdict, number_of, accepted, accepted_clear}
 use Rattle.machine.specs.Controls.{mctrctl_mask, sctrctl_mask, machine_mask}
 use Rattle.machine.specs.Entries.{defined_of, ctrdata_mask}
 use Rattle.machine.specs.Depths.{top_code, depth_of}
@@ -25,11 +26,8 @@ use Rattle.machine.specs.declared.Entry.{Entry}
 use Rattle.machine.specs.declared.Effect.TheVariants.{Keep, Put}
 use Rattle.machine.specs.declared.Decision.{Decision}
 use Rattle.machine.specs.declared.Operation.{Operation}
-use Rattle.machine.specs.declared.Verdict.{Verdict}
-use Rattle.machine.specs.declared.Verdict.TheVariants.{Accepted, IllegalInstruction, VirtualInstruction, NoSuchRegister, ChangeNotPossible, BadState}
 use Rattle.csr.specs.Numbers.{register_of, csr_in}
 use Rattle.csr.specs.Steps.{facts_of, sctrclr_facts, refusal_of}
-use Rattle.csr.specs.declared.Facts.{Facts}
 use Rattle.csr.specs.declared.View.{View}
 use Rattle.csr.specs.declared.View.TheVariants.{Machine, Supervisor, Guest}
 use Rattle.csr.specs.declared.Csr.{Csr}
@@ -68,20 +66,13 @@ granted_number r old g o x = go (is_read o)
 
 -- a decision that the steps may refuse
 unless : (v : Verdict) (r : Registers) (d : Decision) → d.number ≡ 0 → ((unless_refused v r d).number ≡ 0 → ⊥) → Unchanged r (unless_refused v r d)
-unless v r d e h = go (is_accepted v) h
-  where
-    go : (b : Bool) → ((if b then d else refused r v).number ≡ 0 → ⊥) → Unchanged r (if b then d else refused r v)
-    go true k = absurd (k e)
-    go false k = (refl, refl, refl)
+unless (Ok _) r d e k = absurd (k e)
+unless (Err _) r d e k = (refl, refl, refl)
 
 -- its number
 unless_number : (v : Verdict) (r : Registers) (d : Decision) → d.number ≡ 0 → (unless_refused v r d).number ≡ number_of v
-unless_number Accepted r d e = e
-unless_number IllegalInstruction r d e = refl
-unless_number VirtualInstruction r d e = refl
-unless_number NoSuchRegister r d e = refl
-unless_number ChangeNotPossible r d e = refl
-unless_number BadState r d e = refl
+unless_number (Ok _) r d e = e
+unless_number (Err _) r d e = refl
 
 access_number : (r : Registers) (old : Entry) (a : CsrAccess)
     → (access_of r old a).number ≡ number_of (refusal_of r (facts_of r (register_of a.number)))
@@ -199,11 +190,8 @@ good_granted r old g o x q = go (is_read o)
     go false = good_write r g _ q
 
 good_unless : (v : Verdict) (r : Registers) (d : Decision) → Good r → Good d.registers → Good (unless_refused v r d).registers
-good_unless v r d q p = go (is_accepted v)
-  where
-    go : (b : Bool) → Good (if b then d else refused r v).registers
-    go true = p
-    go false = q
+good_unless (Ok _) r d q p = p
+good_unless (Err _) r d q p = q
 
 good_access : (r : Registers) (old : Entry) (a : CsrAccess) → good_of r ≡ true → good_of (access_of r old a).registers ≡ true
 unfolding access_of access_to
@@ -242,9 +230,3 @@ pub other_words : OtherWords
 unfolding with_word with_stored
 other_words =
     record { source = (λ e x. (refl, refl)); target = (λ e x. (refl, refl)); type = (λ e x. (refl, refl)) }
-
--- an access, put together from what its calls give
-pub registered : (r : Registers) (old : Entry) (g m : Csr) (o : Operation) (x : ℕ) (f : Facts) (v : Verdict) (d : Decision)
-    → f ≡ facts_of r g → v ≡ refusal_of r f → m ≡ csr_in r.mode g → d ≡ unless_refused v r (granted_of r old m o x) → d ≡ access_to r old g o x
-unfolding access_to
-registered r old g m o x f v d p q u h = rw (← p, ← q, ← u) h

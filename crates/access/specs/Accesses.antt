@@ -1,8 +1,8 @@
 -- A register access, SCTRCLR and the host's event, from registers free of number 5; and which entry an access is about.
-use Rattle.std.specs.Prelude.{ℕ, ◌%◌, Bool, true, false}
+use Rattle.std.specs.Prelude.{ℕ, ◌%◌, Ok, Err, Bool, true, false}
 use Rattle.std.specs.Prelude.{if◌then◌else◌}
 use Rattle.bits.specs.Words.{joined, without}
-use Rattle.machine.specs.Answers.{number_of, is_accepted, refused, accepted, accepted_clear}
+use Rattle.machine.specs.Answers.{Verdict, number_of, refused, accepted, accepted_clear}
 use Rattle.machine.specs.Regs.{with_enables, with_cycles, no_cycles}
 use Rattle.machine.specs.Depths.{physical_of}
 use Rattle.machine.specs.declared.CsrAccess.{CsrAccess}
@@ -12,8 +12,6 @@ use Rattle.machine.specs.declared.Registers.{Registers}
 use Rattle.machine.specs.declared.Entry.{Entry}
 use Rattle.machine.specs.declared.Operation.{Operation}
 use Rattle.machine.specs.declared.Operation.TheVariants.{Read, Write, Set, Clear}
-use Rattle.machine.specs.declared.Verdict.{Verdict}
-use Rattle.machine.specs.declared.Verdict.TheVariants.{Accepted}
 use Rattle.csr.specs.Numbers.{register_of, csr_in}
 use Rattle.csr.specs.Steps.{selection_of, facts_of, sctrclr_facts, refusal_of}
 use Rattle.csr.specs.declared.Csr.{Csr}
@@ -36,7 +34,7 @@ operand_of Clear v x = without v x
 -- a register is written; the answer is the old reading, v
 unfoldable pub write_of : Registers → Entry → Csr → ℕ → ℕ → Decision
 write_of r old g v x =
-    record { number = number_of Accepted; value = v; registers = registers_written r g x; effect = effect_written r old g x }
+    record { number = number_of (Ok tt); value = v; registers = registers_written r g x; effect = effect_written r old g x }
 
 -- an operation on a register that reads v
 unfoldable pub operated_of : Registers → Entry → Csr → Operation → ℕ → ℕ → Decision
@@ -48,7 +46,8 @@ granted_of r old g o x = operated_of r old g o (reading_of r old g) x
 
 -- refused as the steps say, or the decision where they accept
 abbrev pub unless_refused : Verdict → Registers → Decision → Decision
-unless_refused v r d = if is_accepted v then d else refused r v
+unless_refused (Ok _) r d = d
+unless_refused (Err e) r d = refused r e
 
 -- an access to the register of a CSR number, given the entry in focus
 unfoldable pub access_to : Registers → Entry → Csr → Operation → ℕ → Decision

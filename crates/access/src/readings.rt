@@ -17,6 +17,7 @@ fn frozen_bit(frozen: bool) -> u64
 }
 
 // sctrstatus as it reads.
+#[tactic(auto, unfolding(crate::specs::Readings::status_of))]
 pub fn status(b: Buffer) -> u64
     ensures { result ≡ status_of b }
 {
@@ -24,6 +25,7 @@ pub fn status(b: Buffer) -> u64
 }
 
 // Word k of an entry as it is stored.
+#[tactic(auto, unfolding(crate::specs::Readings::stored_of))]
 fn stored(e: Entry, k: u64) -> u64
     ensures { result ≡ stored_of e k }
 {
@@ -35,6 +37,7 @@ fn stored(e: Entry, k: u64) -> u64
 }
 
 // Word k of an entry as it reads.
+#[tactic(auto, unfolding(crate::specs::Readings::word_of))]
 fn word(e: Entry, k: u64) -> u64
     ensures { result ≡ word_of e k }
 {
@@ -42,12 +45,14 @@ fn word(e: Entry, k: u64) -> u64
 }
 
 // Whether a selection of the window is an entry at the current depth.
+#[tactic(auto, unfolding(crate::specs::Readings::is_entry))]
 pub fn is_entry(b: Buffer, selection: u64) -> bool
     ensures { result ≡ is_entry b selection }
 {
     in_depth(bits::low(selection, 8), b.code)
 }
 
+#[tactic(auto, unfolding(crate::specs::Readings::entry_reading))]
 fn entry_word(b: Buffer, selection: u64, old: Entry, k: u64) -> u64
     ensures { result ≡ entry_reading b selection old k }
 {
@@ -58,6 +63,7 @@ fn entry_word(b: Buffer, selection: u64, old: Entry, k: u64) -> u64
     }
 }
 
+#[tactic(auto, unfolding(crate::specs::Readings::control_reading))]
 fn control_reading(c: ControlWords, v: View) -> u64
     ensures { result ≡ control_reading c v }
 {
@@ -69,18 +75,16 @@ fn control_reading(c: ControlWords, v: View) -> u64
 }
 
 // What a register reads as.
+#[tactic(auto, unfolding(crate::specs::Readings::reading_of))]
 pub fn reading(r: Registers, old: Entry, g: Csr) -> u64
     ensures { result ≡ reading_of r old g }
 {
-    let c = r.controls;
-    let b = r.buffer;
-    let s = r.selects;
     match g {
-        Csr::Control(v) => control_reading(c, v),
-        Csr::Select(v) => select(s, v),
-        Csr::Ireg(v, k) => entry_word(b, select(s, v), old, k),
-        Csr::Depth => b.code,
-        Csr::Status => status(b),
+        Csr::Control(v) => control_reading(r.controls, v),
+        Csr::Select(v) => select(r.selects, v),
+        Csr::Ireg(v, k) => entry_word(r.buffer, select(r.selects, v), old, k),
+        Csr::Depth => r.buffer.code,
+        Csr::Status => status(r.buffer),
         Csr::Unlisted => 0,
     }
 }

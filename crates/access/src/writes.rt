@@ -1,9 +1,6 @@
 // What a write does to the registers and to the entry in focus.
-ghost use Rattle.std.specs.Prelude.{◌≡◌, ltb};
-ghost use Rattle.bits.specs.Words.{keep, joined};
-ghost use Rattle.machine.specs.Controls.{mctrctl_mask, sctrctl_mask, machine_mask};
-ghost use Rattle.machine.specs.Regs.{with_controls, with_buffer, with_selects, with_cycles, no_cycles};
-ghost use Rattle.access.specs.Writes.{with_mctrctl, with_vsctrctl, control_written, select_written, depth_written, status_written, registers_written, with_source, with_target, with_data, with_stored, with_word, entry_written, effect_written};
+ghost use Rattle.std.specs.Prelude.{◌≡◌};
+ghost use Rattle.access.specs.Writes.{control_written, select_written, depth_written, status_written, registers_written, with_stored, with_word, entry_written, effect_written};
 
 use crate::readings::is_entry;
 use csr::steps::select;
@@ -14,59 +11,41 @@ use machine::entries::defined;
 use machine::regs::{with_buffer, with_controls, with_no_cycles, with_selects};
 use machine::{Buffer, ControlWords, Effect, Entry, Registers, Selects};
 
-fn write_mctrctl(c: ControlWords, x: u64) -> ControlWords
-    ensures { result ≡ with_mctrctl c (keep mctrctl_mask x) }
-{
-    let mut q = c;
-    q.mctrctl = bits::masked(x, MCTRCTL_MASK);
-    q
-}
-
-fn write_sctrctl(c: ControlWords, x: u64) -> ControlWords
-    ensures { result ≡ with_mctrctl c (joined (keep sctrctl_mask x) (keep machine_mask c.mctrctl)) }
-{
-    let mut q = c;
-    q.mctrctl = bits::join(
-        bits::masked(x, SCTRCTL_MASK),
-        bits::masked(c.mctrctl, MACHINE_MASK),
-    );
-    q
-}
-
-fn write_vsctrctl(c: ControlWords, x: u64) -> ControlWords
-    ensures { result ≡ with_vsctrctl c (keep sctrctl_mask x) }
-{
-    let mut q = c;
-    q.vsctrctl = bits::masked(x, SCTRCTL_MASK);
-    q
-}
-
+#[tactic(auto, unfolding(crate::specs::Writes::control_written))]
 fn write_control(c: ControlWords, v: View, x: u64) -> ControlWords
     ensures { result ≡ control_written c v x }
 {
     match v {
-        View::Machine => write_mctrctl(c, x),
-        View::Supervisor => write_sctrctl(c, x),
-        View::Guest => write_vsctrctl(c, x),
+        View::Machine => ControlWords {
+            mctrctl: bits::masked(x, MCTRCTL_MASK),
+            ..c
+        },
+        View::Supervisor => ControlWords {
+            mctrctl: bits::join(
+                bits::masked(x, SCTRCTL_MASK),
+                bits::masked(c.mctrctl, MACHINE_MASK),
+            ),
+            ..c
+        },
+        View::Guest => ControlWords {
+            vsctrctl: bits::masked(x, SCTRCTL_MASK),
+            ..c
+        },
     }
 }
 
+#[tactic(auto, unfolding(crate::specs::Writes::select_written))]
 fn write_select(s: Selects, v: View, x: u64) -> Selects
     ensures { result ≡ select_written s v x }
 {
     match v {
         View::Machine => s,
-        View::Supervisor => Selects {
-            siselect: x,
-            vsiselect: s.vsiselect,
-        },
-        View::Guest => Selects {
-            siselect: s.siselect,
-            vsiselect: x,
-        },
+        View::Supervisor => Selects { siselect: x, ..s },
+        View::Guest => Selects { vsiselect: x, ..s },
     }
 }
 
+#[tactic(auto, unfolding(crate::specs::Writes::depth_written))]
 fn write_depth(b: Buffer, x: u64) -> Buffer
     ensures { result ≡ depth_written b x }
 {
@@ -74,149 +53,73 @@ fn write_depth(b: Buffer, x: u64) -> Buffer
     Buffer {
         code,
         wrptr: wrapped(b.wrptr, code),
-        frozen: b.frozen,
+        ..b
     }
 }
 
+#[tactic(auto, unfolding(crate::specs::Writes::status_written))]
 fn write_status(b: Buffer, x: u64) -> Buffer
     ensures { result ≡ status_written b x }
 {
     Buffer {
-        code: b.code,
         wrptr: wrapped(bits::low(x, 8), b.code),
         frozen: bits::bit(x, 31),
+        ..b
     }
 }
 
-fn with_control(r: Registers, v: View, x: u64) -> Registers
-    ensures { result ≡ with_controls r (control_written r.controls v x) }
-{
-    let c = r.controls;
-    with_controls(r, write_control(c, v, x))
-}
-
-// A control register written, and the cycle counter started again.
-fn control_written(r: Registers, v: View, x: u64) -> Registers
-    ensures { result ≡ with_cycles (with_controls r (control_written r.controls v x)) no_cycles }
-{
-    with_no_cycles(with_control(r, v, x))
-}
-
-fn select_written(r: Registers, v: View, x: u64) -> Registers
-    ensures { result ≡ with_selects r (select_written r.selects v x) }
-{
-    let s = r.selects;
-    with_selects(r, write_select(s, v, x))
-}
-
-fn depth_written(r: Registers, x: u64) -> Registers
-    ensures { result ≡ with_buffer r (depth_written r.buffer x) }
-{
-    let b = r.buffer;
-    with_buffer(r, write_depth(b, x))
-}
-
-fn status_written(r: Registers, x: u64) -> Registers
-    ensures { result ≡ with_buffer r (status_written r.buffer x) }
-{
-    let b = r.buffer;
-    with_buffer(r, write_status(b, x))
-}
-
-// The registers after a write.
+// The registers after a write; that of a control register starts the cycle counter again.
+#[tactic(auto, unfolding(crate::specs::Writes::registers_written))]
 pub fn registers_written(r: Registers, g: Csr, x: u64) -> Registers
     ensures { result ≡ registers_written r g x }
 {
     match g {
-        Csr::Control(v) => control_written(r, v, x),
-        Csr::Select(v) => select_written(r, v, x),
-        Csr::Ireg(_, _) => r,
-        Csr::Depth => depth_written(r, x),
-        Csr::Status => status_written(r, x),
-        Csr::Unlisted => r,
+        Csr::Control(v) => with_no_cycles(with_controls(r, write_control(r.controls, v, x))),
+        Csr::Select(v) => with_selects(r, write_select(r.selects, v, x)),
+        Csr::Depth => with_buffer(r, write_depth(r.buffer, x)),
+        Csr::Status => with_buffer(r, write_status(r.buffer, x)),
+        Csr::Ireg(_, _) | Csr::Unlisted => r,
     }
 }
 
-fn with_source(e: Entry, x: u64) -> Entry
-    ensures { result ≡ with_source e x }
-{
-    let mut q = e;
-    q.ctrsource = x;
-    q
-}
-
-fn with_target(e: Entry, x: u64) -> Entry
-    ensures { result ≡ with_target e x }
-{
-    let mut q = e;
-    q.ctrtarget = x;
-    q
-}
-
-fn with_data(e: Entry, x: u64) -> Entry
-    ensures { result ≡ with_data e x }
-{
-    let mut q = e;
-    q.ctrdata = x;
-    q
-}
-
+#[tactic(auto, unfolding(crate::specs::Writes::with_stored))]
 fn with_stored(e: Entry, k: u64, x: u64) -> Entry
     ensures { result ≡ with_stored e k x }
 {
     match k {
-        0 => with_source(e, x),
-        1 => with_target(e, x),
-        _ => with_data(e, x),
+        0 => Entry { ctrsource: x, ..e },
+        1 => Entry { ctrtarget: x, ..e },
+        _ => Entry { ctrdata: x, ..e },
     }
 }
 
 // Word k written: its defined bits.
+#[tactic(auto, unfolding(crate::specs::Writes::with_word))]
 fn with_word(e: Entry, k: u64, x: u64) -> Entry
     ensures { result ≡ with_word e k x }
 {
     with_stored(e, k, defined(k, x))
 }
 
-// Whether there is a word k to write.
-fn is_word(k: u64) -> bool
-    ensures { result ≡ ltb k 3 }
-{
-    k < 3
-}
-
-fn put_word(old: Entry, k: u64, x: u64) -> Effect
-    ensures { result ≡ Effect.Put (with_word old k x) }
-{
-    Effect::Put(with_word(old, k, x))
-}
-
+// An entry has words 0, 1 and 2 alone.
+#[tactic(auto, unfolding(crate::specs::Writes::entry_written))]
 fn entry_written(b: Buffer, selection: u64, old: Entry, k: u64, x: u64) -> Effect
     ensures { result ≡ entry_written b selection old k x }
 {
-    if is_entry(b, selection) {
-        if is_word(k) {
-            put_word(old, k, x)
-        } else {
-            Effect::Keep
-        }
+    if is_entry(b, selection) && k < 3 {
+        Effect::Put(with_word(old, k, x))
     } else {
         Effect::Keep
     }
 }
 
 // The effect of a write on the entries.
+#[tactic(auto, unfolding(crate::specs::Writes::effect_written))]
 pub fn effect_written(r: Registers, old: Entry, g: Csr, x: u64) -> Effect
     ensures { result ≡ effect_written r old g x }
 {
-    let b = r.buffer;
-    let s = r.selects;
     match g {
-        Csr::Control(_) => Effect::Keep,
-        Csr::Select(_) => Effect::Keep,
-        Csr::Ireg(v, k) => entry_written(b, select(s, v), old, k, x),
-        Csr::Depth => Effect::Keep,
-        Csr::Status => Effect::Keep,
-        Csr::Unlisted => Effect::Keep,
+        Csr::Ireg(v, k) => entry_written(r.buffer, select(r.selects, v), old, k, x),
+        _ => Effect::Keep,
     }
 }

@@ -3,31 +3,47 @@
 // answers, registers and entries. The gate compares it with what the model prints.
 #![tactic(auto)]
 
+use access::accesses::{access, host, sctrclr};
 use machine::answers::{number_index, refuse};
 use machine::controls::{MCTRCTL_MASK, SCTRCTL_MASK};
-use machine::regs::{
-    with_buffer, with_controls, with_cycles, with_enables, with_mode, with_selects,
-};
+use machine::depths::{TOP_CODE, depth, physical, wrapped};
+use machine::good::is_good;
+use machine::regs::{reset, with_enables, with_selects};
 use machine::{
-    Buffer, ControlWords, CsrAccess, Cycles, Decision, Effect, Enables, Entry, Mode, Registers,
-    Selects, Verdict,
+    Buffer, ControlWords, CsrAccess, Cycles, Decision, Effect, Enables, Entry, Mode, Operation,
+    Refusal, Registers, Selects,
 };
 use std::io;
 use sweep_support::digests::{digest_answer, digest_entry, digest_registers};
 use sweep_support::lines::{put_counts, put_word};
-use test_support::{SEED, digest, xorshift64};
-use trace::codes::operation_of;
+use test_support::{Random, count_at, digest};
+use text::Page;
 
-// What was seen, the last pseudo-random number and the last entry in focus.
-#[derive(Clone, Copy)]
+// What was seen, the words to draw and the last entry in focus.
+#[derive(Drop)]
 struct Run {
-    random: u64,
+    random: Random,
     last: Entry,
     counts: [u64; 6],
     answers: u64,
     registers: u64,
     entries: u64,
 }
+
+const MODES: [(Mode, &[u8]); 5] = [
+    (Mode::U, b"mode U\n"),
+    (Mode::S, b"mode S\n"),
+    (Mode::M, b"mode M\n"),
+    (Mode::VU, b"mode VU\n"),
+    (Mode::VS, b"mode VS\n"),
+];
+
+const OPERATIONS: [Operation; 4] = [
+    Operation::Read,
+    Operation::Write,
+    Operation::Set,
+    Operation::Clear,
+];
 
 // Every listed number and its neighbours, the ends of the ranges, and one that is listed but for a
 // high bit.
@@ -88,32 +104,22 @@ const SELECTIONS: [u64; 13] = [
     0x8000_0000_0000_0200,
 ];
 
+// How many states there are of each mode.
+const STATES: u64 = 40;
+
+const EMPTY: Entry = Entry {
+    ctrsource: 0,
+    ctrtarget: 0,
+    ctrdata: 0,
+};
+
 // The entry in focus after an effect.
 fn after(old: Entry, effect: Effect) -> Entry {
     match effect {
         Effect::Keep => old,
         Effect::Put(e) => e,
-        Effect::ClearAll => Entry {
-            ctrsource: 0,
-            ctrtarget: 0,
-            ctrdata: 0,
-        },
+        Effect::ClearAll => EMPTY,
     }
-}
-
-fn tallied(run: Run, d: Decision) -> Run {
-    let mut next = run;
-    let k = number_index(d.number) as usize;
-    if k < 6 {
-        next.counts[k] = std::num::wrapping_add_u64(next.counts[k], 1);
-    }
-    next.answers = digest_answer(next.answers, d.number, d.value);
-    let r = d.registers;
-    next.registers = digest_registers(next.registers, r);
-    let old = run.last;
-    let effect = d.effect;
-    next.entries = digest_entry(next.entries, after(old, effect));
-    next
 }
 
 // Often no bits, all bits or few bits.
@@ -124,99 +130,6 @@ fn operand_of(x: u64) -> u64 {
         2 => x % 1024,
         _ => x,
     }
-}
-
-// One access, with an operand and an entry of its own; number 5 is looked for first.
-fn accessed(run: Run, r: Registers, number: u64, operation: u64) -> Run {
-    let x = xorshift64(run.random);
-    let a = xorshift64(x);
-    let b = xorshift64(a);
-    let c = xorshift64(b);
-    let e = Entry {
-        ctrsource: a,
-        ctrtarget: b,
-        ctrdata: c,
-    };
-    let mut next = run;
-    next.random = c;
-    next.last = e;
-    if machine::good::is_good(r) {
-        let access = CsrAccess {
-            operation: operation_of(operation),
-            number,
-            operand: operand_of(x),
-        };
-        tallied(next, access::accesses::access(r, e, access))
-    } else {
-        tallied(next, refuse(r, Verdict::BadState))
-    }
-}
-
-// All four operations on a number.
-fn operated(run: Run, r: Registers, number: u64) -> Run {
-    let mut next = run;
-    for k in 0..4 {
-        next = accessed(next, r, number, k);
-    }
-    next
-}
-
-// All numbers.
-fn numbered(run: Run, r: Registers) -> Run {
-    let mut next = run;
-    for k in 0..37 {
-        next = operated(next, r, NUMBERS[k]);
-    }
-    next
-}
-
-// SCTRCLR and the host's event, with the last entry.
-fn others(run: Run, r: Registers) -> Run {
-    let x = run.random;
-    if machine::good::is_good(r) {
-        let next = tallied(run, access::accesses::sctrclr(r));
-        let enables = Enables {
-            mstateen0: bits::bit(x, 0),
-            hstateen0: bits::bit(x, 1),
-        };
-        tallied(next, access::accesses::host(r, enables))
-    } else {
-        let next = tallied(run, refuse(r, Verdict::BadState));
-        tallied(next, refuse(r, Verdict::BadState))
-    }
-}
-
-fn selected(r: Registers, j: usize, s: u64) -> Registers {
-    let a = j % 13;
-    let b = ((2 * (j as u64 % 13) + s % 13) % 13) as usize;
-    let selects = Selects {
-        siselect: SELECTIONS[a],
-        vsiselect: SELECTIONS[b],
-    };
-    with_selects(r, selects)
-}
-
-// All selections.
-fn windowed(run: Run, r: Registers, s: u64) -> Run {
-    let mut next = run;
-    for j in 0..13 {
-        let q = selected(r, j, s);
-        next = others(numbered(next, q), q);
-    }
-    next
-}
-
-// All settings of the state enables.
-fn enabled(run: Run, r: Registers, s: u64) -> Run {
-    let mut next = run;
-    for e in 0u64..4 {
-        let enables = Enables {
-            mstateen0: e % 2 == 1,
-            hstateen0: e / 2 == 1,
-        };
-        next = windowed(next, with_enables(r, enables), s);
-    }
-    next
 }
 
 fn vsctrctl_of(s: u64, x: u64) -> u64 {
@@ -237,11 +150,10 @@ fn code_of(s: u64) -> u64 {
 
 fn wrptr_of(s: u64, code: u64, x: u64) -> u64 {
     match s % 32 {
-        5 => machine::depths::depth(code),
+        5 | 21 => depth(code),
         13 => x,
-        21 => machine::depths::depth(code),
         29 => 0xFFFF_FFFF_FFFF_FFFF,
-        _ => machine::depths::wrapped(x, code),
+        _ => wrapped(x, code),
     }
 }
 
@@ -260,104 +172,156 @@ fn cycles_of(s: u64, x: u64) -> Cycles {
     }
 }
 
-// State s of a mode.
-fn swept_state(run: Run, mode: Mode, s: u64) -> Run {
-    let a = xorshift64(run.random);
-    let b = xorshift64(a);
-    let c = xorshift64(b);
-    let d = xorshift64(c);
-    let mut next = run;
-    next.random = d;
-    let controls = ControlWords {
-        mctrctl: mctrctl_of(s, a),
-        vsctrctl: vsctrctl_of(s, b),
-    };
-    let code = code_of(s);
-    let buffer = Buffer {
-        code,
-        wrptr: wrptr_of(s, code, c),
-        frozen: s % 2 == 1,
-    };
-    let r = with_mode(
-        with_buffer(with_controls(machine::regs::reset(false), controls), buffer),
-        mode,
-    );
-    enabled(next, with_cycles(r, cycles_of(s, d)), s)
-}
-
-fn swept(mode: Mode) -> Run {
-    let mut run = Run {
-        random: SEED,
-        last: Entry {
-            ctrsource: 0,
-            ctrtarget: 0,
-            ctrdata: 0,
-        },
-        counts: [0; 6],
-        answers: 0,
-        registers: 0,
-        entries: 0,
-    };
-    for s in 0..40 {
-        run = swept_state(run, mode, s);
+impl Run {
+    fn new() -> Run {
+        Run {
+            random: Random::new(),
+            last: EMPTY,
+            counts: [0; 6],
+            answers: 0,
+            registers: 0,
+            entries: 0,
+        }
     }
-    run
+
+    // What is decided of an event; number 5 is looked for first.
+    fn add_decision<F: FnOnce(Registers) -> Decision>(&mut self, r: Registers, decide: F)
+        requires { F.IsAlwaysCallable decide }
+    {
+        let d = if is_good(r) {
+            decide(r)
+        } else {
+            refuse(r, Refusal::BadState)
+        };
+        count_at(&mut self.counts, number_index(d.number));
+        self.answers = digest_answer(self.answers, d.number, d.value);
+        self.registers = digest_registers(self.registers, d.registers);
+        self.entries = digest_entry(self.entries, after(self.last, d.effect));
+    }
+
+    // One access, with an operand and an entry of its own.
+    fn access(&mut self, r: Registers, number: u64, operation: Operation) {
+        let operand = operand_of(self.random.draw());
+        let e = Entry {
+            ctrsource: self.random.draw(),
+            ctrtarget: self.random.draw(),
+            ctrdata: self.random.draw(),
+        };
+        let a = CsrAccess {
+            operation,
+            number,
+            operand,
+        };
+        self.last = e;
+        self.add_decision(r, |r| access(r, e, a));
+    }
+
+    // All operations on all numbers; then SCTRCLR and the host's event, with the last entry.
+    fn events(&mut self, r: Registers) {
+        for number in NUMBERS {
+            for operation in OPERATIONS {
+                self.access(r, number, operation);
+            }
+        }
+        let enables = Enables {
+            mstateen0: bits::bit(self.random.last, 0),
+            hstateen0: bits::bit(self.random.last, 1),
+        };
+        self.add_decision(r, sctrclr);
+        self.add_decision(r, |r| host(r, enables));
+    }
+
+    // All selections.
+    fn windowed(&mut self, r: Registers, s: u64) {
+        for (j, siselect) in SELECTIONS.into_iter().enumerate() {
+            let k = (2 * j as u64 + s % 13) % 13;
+            let selects = Selects {
+                siselect,
+                vsiselect: SELECTIONS[k as usize],
+            };
+            self.events(with_selects(r, selects));
+        }
+    }
+
+    // All settings of the state enables.
+    fn enabled(&mut self, r: Registers, s: u64) {
+        for hstateen0 in [false, true] {
+            for mstateen0 in [false, true] {
+                let enables = Enables {
+                    mstateen0,
+                    hstateen0,
+                };
+                self.windowed(with_enables(r, enables), s);
+            }
+        }
+    }
+
+    // State s of a mode.
+    fn swept_state(&mut self, mode: Mode, s: u64) {
+        let a = self.random.draw();
+        let b = self.random.draw();
+        let c = self.random.draw();
+        let d = self.random.draw();
+        let code = code_of(s);
+        let r = Registers {
+            mode,
+            controls: ControlWords {
+                mctrctl: mctrctl_of(s, a),
+                vsctrctl: vsctrctl_of(s, b),
+            },
+            buffer: Buffer {
+                code,
+                wrptr: wrptr_of(s, code, c),
+                frozen: s % 2 == 1,
+            },
+            cycles: cycles_of(s, d),
+            ..reset(false)
+        };
+        self.enabled(r, s);
+    }
 }
 
 fn report_mode(rt: &impl Print, name: &[u8], mode: Mode) {
-    let run = swept(mode);
+    let mut run = Run::new();
+    for s in 0..STATES {
+        run.swept_state(mode, s);
+    }
     let mut out = [0u8; 1024];
-    let mut at = text::put(&mut out, 0, name);
-    let counts = run.counts;
-    at = put_counts(&mut out, at, b"  number ", &counts);
-    at = put_word(&mut out, at, b"  answers 0x", run.answers);
-    at = put_word(&mut out, at, b"  registers 0x", run.registers);
-    at = put_word(&mut out, at, b"  entries 0x", run.entries);
-    console::write(&mut io::writer(rt), text::before(&out, at));
+    let mut page = Page::new(&mut out);
+    page.put(name);
+    put_counts(&mut page, b"  number ", &run.counts);
+    put_word(&mut page, b"  answers 0x", run.answers);
+    put_word(&mut page, b"  registers 0x", run.registers);
+    put_word(&mut page, b"  entries 0x", run.entries);
+    console::write(&mut io::writer(rt), page.text());
 }
 
-// The places of all logical entries under one WRPTR.
-fn places(h: u64, code: u64, wrptr: u64) -> u64 {
-    let depth = machine::depths::depth(code);
-    let mut next = h;
-    let mut i: u64 = 0;
-    while i < depth {
-        next = digest(next, machine::depths::physical(code, wrptr, i));
-        i += 1;
-    }
-    next
-}
-
-// The same under all WRPTRs.
+// The places of all logical entries under all WRPTRs.
 fn all_places(code: u64) -> u64 {
-    let depth = machine::depths::depth(code);
-    let mut next: u64 = 0;
-    let mut wrptr: u64 = 0;
-    while wrptr < depth {
-        next = places(next, code, wrptr);
-        wrptr += 1;
+    let mut h = 0;
+    for wrptr in 0..depth(code) {
+        for i in 0..depth(code) {
+            h = digest(h, physical(code, wrptr, i));
+        }
     }
-    next
+    h
 }
 
 fn report_depth(rt: &impl Print, code: u64) {
     let mut out = [0u8; 64];
-    let mut at = text::put(&mut out, 0, b"  depth ");
-    at = text::put_decimal(&mut out, at, machine::depths::depth(code));
-    at = put_word(&mut out, at, b" 0x", all_places(code));
-    console::write(&mut io::writer(rt), text::before(&out, at));
+    let mut page = Page::new(&mut out);
+    page.put(b"  depth ");
+    page.put_decimal(depth(code));
+    put_word(&mut page, b" 0x", all_places(code));
+    console::write(&mut io::writer(rt), page.text());
 }
 
 fn main(rt: HostRuntime) {
-    report_mode(&rt, b"mode U\n", Mode::U);
-    report_mode(&rt, b"mode S\n", Mode::S);
-    report_mode(&rt, b"mode M\n", Mode::M);
-    report_mode(&rt, b"mode VU\n", Mode::VU);
-    report_mode(&rt, b"mode VS\n", Mode::VS);
+    for (mode, name) in MODES {
+        report_mode(&rt, name, mode);
+    }
     console::write(&mut io::writer(&rt), b"logical entries\n");
-    report_depth(&rt, 0);
-    report_depth(&rt, 1);
-    report_depth(&rt, 2);
-    report_depth(&rt, 3);
-    report_depth(&rt, 4);
+    for code in 0..=TOP_CODE {
+        report_depth(&rt, code);
+    }
 }

@@ -14,6 +14,7 @@ pub fn bit(x: u64, n: u32) -> bool
 }
 
 // The k bits of x from bit n up.
+#[tactic(auto, using(crate::proofs::Laws::past, crate::proofs::Laws::whole, crate::proofs::Laws::field_mask))]
 pub fn field64(x: u64, n: u32, k: u32) -> u64
     ensures { result ≡ field_at x n k }
 {
@@ -35,22 +36,15 @@ pub fn low(x: u64, k: u32) -> u64
     field64(x, 0, k)
 }
 
-// The k bits of w from bit n up.
+// The same of a word of 32 bits.
 pub fn field32(w: u32, n: u32, k: u32) -> u32
     ensures { result ≡ field_at w n k }
 {
-    if n < 32 {
-        if k < 32 {
-            (w >> n) & ((1 << k) - 1)
-        } else {
-            w >> n
-        }
-    } else {
-        0
-    }
+    field64(u64::from(w), n, k) as u32
 }
 
 // x with only the bits of m.
+#[tactic(auto, unfolding(crate::specs::Words::keep))]
 pub fn masked(x: u64, m: u64) -> u64
     ensures { result ≡ keep m x }
 {
@@ -58,6 +52,7 @@ pub fn masked(x: u64, m: u64) -> u64
 }
 
 // The bits of x and those of y.
+#[tactic(auto, unfolding(crate::specs::Words::joined))]
 pub fn join(x: u64, y: u64) -> u64
     ensures { result ≡ joined x y }
 {
@@ -65,6 +60,7 @@ pub fn join(x: u64, y: u64) -> u64
 }
 
 // x without the bits of y.
+#[tactic(auto, unfolding(crate::specs::Words::without))]
 pub fn strip(x: u64, y: u64) -> u64
     ensures { result ≡ without x y }
 {
@@ -72,6 +68,7 @@ pub fn strip(x: u64, y: u64) -> u64
 }
 
 // x with bit 0 set.
+#[tactic(auto, using(crate::proofs::Laws::low_set))]
 pub fn set_bit0(x: u64) -> u64
     ensures { result ≡ x / 2 * 2 + 1 }
 {

@@ -1,113 +1,56 @@
 // The arguments: flags, and how each is read.
-use crate::files::Filled;
 use crate::problems;
-use console::Complain;
+use console::{Complain, LONGEST_NAME};
 use std::env::Env;
-use text::is_same;
 
-// What an argument before the operands is.
-#[derive(Drop)]
-enum Flag {
-    None,
-    Zc,
-    Help,
-    Unknown,
+// What the arguments ask for: how the program is used, or a check of the operands from argument `first` on,
+// with Zcmp and Zcmt or without them.
+#[derive(Clone, Copy)]
+pub(crate) enum Request {
+    Usage,
+    Check { zc: bool, first: usize },
 }
 
-// What the flags ask for, whether nothing is wrong with them, and the number of the first argument
-// after them.
-#[derive(Drop)]
-pub(crate) struct Options {
-    pub(crate) zc: bool,
-    pub(crate) help: bool,
-    pub(crate) is_valid: bool,
-    pub(crate) first: usize,
-}
-
-// Argument i. One that the buffer has no room for is told.
-pub(crate) fn read(rt: &(impl Env + Complain), i: usize, buffer: &mut [u8]) -> Filled {
+// Argument i, in the lent buffer. One that the buffer has no room for is told.
+pub(crate) fn read<'a>(
+    rt: &(impl Env + Complain),
+    i: usize,
+    buffer: &'a mut [u8],
+) -> Option<&'a [u8]> {
     match console::arg(rt, i, buffer) {
-        Ok(count) => Filled {
-            count,
-            is_whole: true,
-        },
+        Ok(count) => Some(text::before(buffer, count)),
         Err(error) => {
             console::fail(&mut rt.complaints(), b"check_dump: an argument", error);
-            Filled {
-                count: 0,
-                is_whole: false,
-            }
+            None
         }
     }
 }
 
 pub(crate) fn unexpected(rt: &(impl Env + Complain), i: usize) {
-    let mut buffer = console::buffer();
-    let argument = read(rt, i, &mut buffer);
-    if argument.is_whole {
-        problems::unexpected(rt, text::before(&buffer, argument.count));
+    let mut buffer = [0u8; LONGEST_NAME];
+    if let Some(argument) = read(rt, i, &mut buffer) {
+        problems::unexpected(rt, argument);
     }
 }
 
-fn begins_with_dash(argument: &[u8]) -> bool {
-    argument.len() > 0 && argument[0] == b'-'
-}
-
-fn flag_of(argument: &[u8]) -> Flag {
-    if !begins_with_dash(argument) {
-        Flag::None
-    } else if is_same(argument, b"--zc") {
-        Flag::Zc
-    } else if is_same(argument, b"--help") {
-        Flag::Help
-    } else {
-        Flag::Unknown
+// What all flags ask for, up to one that asks for usage. One that is unknown is told.
+pub(crate) fn read_request(rt: &(impl Env + Complain), count: usize) -> Option<Request> {
+    if count < 2 {
+        return Some(Request::Usage);
     }
-}
-
-// The options with argument i read. One that is no flag ends them.
-fn with_argument(rt: &impl Complain, o: Options, i: usize, argument: &[u8]) -> Options {
-    let mut next = o;
-    match flag_of(argument) {
-        Flag::None => next.first = i,
-        Flag::Zc => next.zc = true,
-        Flag::Help => next.help = true,
-        Flag::Unknown => {
-            problems::unknown_flag(rt, argument);
-            next.is_valid = false;
+    let mut zc = false;
+    for i in 1..count {
+        let mut buffer = [0u8; LONGEST_NAME];
+        let argument = read(rt, i, &mut buffer)?;
+        match argument {
+            b"--zc" => zc = true,
+            b"--help" => return Some(Request::Usage),
+            [b'-', ..] => {
+                problems::unknown_flag(rt, argument);
+                return None;
+            }
+            _ => return Some(Request::Check { zc, first: i }),
         }
     }
-    next
-}
-
-fn invalid(o: Options) -> Options {
-    let mut next = o;
-    next.is_valid = false;
-    next
-}
-
-fn read_flag(rt: &(impl Env + Complain), o: Options, i: usize) -> Options {
-    let mut buffer = console::buffer();
-    let argument = read(rt, i, &mut buffer);
-    if argument.is_whole {
-        with_argument(rt, o, i, text::before(&buffer, argument.count))
-    } else {
-        invalid(o)
-    }
-}
-
-// All flags, up to one that asks for usage or is unknown.
-pub(crate) fn read_flags(rt: &(impl Env + Complain), count: usize) -> Options {
-    let mut o = Options {
-        zc: false,
-        help: false,
-        is_valid: true,
-        first: count,
-    };
-    let mut i = 1;
-    while i < count && o.first == count && o.is_valid && !o.help {
-        o = read_flag(rt, o, i);
-        i += 1;
-    }
-    o
+    Some(Request::Check { zc, first: count })
 }

@@ -1,7 +1,6 @@
 // The check: of the operands first the base, then the image, then the dump.
-use crate::bases::number;
-use crate::{arguments, files, problems, report, words};
-use console::Complain;
+use crate::{arguments, bases, files, problems, report};
+use console::{Complain, LONGEST_NAME};
 use std::env::Env;
 use std::fs::Files;
 
@@ -12,111 +11,99 @@ const DUMP_BYTES: usize = 98304;
 
 const WORDS: usize = 12288;
 
-fn check_words(rt: &(impl Print + Complain), image: &[u8], base: u64, zc: bool, bytes: &[u8]) {
-    let mut words = [0u64; WORDS];
-    let count = words::put(&mut words, bytes);
-    let entries = &words[..count];
-    report::print(rt, dump::check(image, base, entries, zc), entries);
-}
-
-// The bytes of the dump, if they are whole words.
-fn check_bytes(
-    rt: &(impl Print + Complain),
-    image: &[u8],
+// What a dump is checked against: the image, the address of its first byte, and whether Zcmp and Zcmt are on.
+#[derive(Clone, Copy)]
+struct Firmware<'a> {
+    image: &'a [u8],
     base: u64,
     zc: bool,
-    name: &[u8],
-    bytes: &[u8],
-) {
-    let left = bytes.len() % 8;
-    if left == 0 {
-        check_words(rt, image, base, zc, bytes);
-    } else {
-        problems::left_over(rt, name, left as u64, (bytes.len() / 8) as u64);
+}
+
+impl Firmware<'_> {
+    fn check_words(&self, rt: &(impl Print + Complain), bytes: &[u8]) {
+        let mut words = [0u64; WORDS];
+        let count = console::put_words(&mut words, bytes);
+        let entries = &words[..count];
+        report::print(
+            rt,
+            dump::check(self.image, self.base, entries, self.zc),
+            entries,
+        );
     }
-}
 
-fn check_file(
-    rt: &(impl Files + Print + Complain),
-    image: &[u8],
-    base: u64,
-    zc: bool,
-    name: &[u8],
-) {
-    let mut bytes = [0u8; DUMP_BYTES];
-    let file = files::read(rt, name, &mut bytes);
-    if file.is_whole {
-        check_bytes(rt, image, base, zc, name, text::before(&bytes, file.count));
-    }
-}
-
-// The dump that argument i names.
-fn check_dump(
-    rt: &(impl Files + Env + Print + Complain),
-    image: &[u8],
-    base: u64,
-    zc: bool,
-    i: usize,
-) {
-    let mut name = console::buffer();
-    let argument = arguments::read(rt, i, &mut name);
-    if argument.is_whole {
-        check_file(rt, image, base, zc, text::before(&name, argument.count));
-    }
-}
-
-// The image of this name, read into the lent buffer, and the dump that argument i names.
-fn check_into(
-    rt: &(impl Files + Env + Print + Complain),
-    bytes: &mut [u8; IMAGE_BYTES],
-    name: &[u8],
-    base: u64,
-    zc: bool,
-    i: usize,
-) {
-    let file = files::read(rt, name, bytes);
-    if file.is_whole {
-        check_dump(rt, text::before(bytes, file.count), base, zc, i);
-    }
-}
-
-fn check_image(
-    rt: &(impl Files + Env + Print + Complain),
-    name: &[u8],
-    base: u64,
-    zc: bool,
-    i: usize,
-) {
-    let mut bytes = [0u8; IMAGE_BYTES];
-    check_into(rt, &mut bytes, name, base, zc, i);
-}
-
-// The image that argument i names and the dump that argument k does.
-fn check_at(rt: &(impl Files + Env + Print + Complain), i: usize, base: u64, k: usize, zc: bool) {
-    let mut name = console::buffer();
-    let argument = arguments::read(rt, i, &mut name);
-    if argument.is_whole {
-        check_image(rt, text::before(&name, argument.count), base, zc, k);
-    }
-}
-
-// The operands, each by its number among the arguments.
-pub(crate) fn run(
-    rt: &(impl Files + Env + Print + Complain),
-    image: usize,
-    base: usize,
-    dump: usize,
-    zc: bool,
-) {
-    let mut buffer = console::buffer();
-    let argument = arguments::read(rt, base, &mut buffer);
-    if argument.is_whole {
-        let text = text::before(&buffer, argument.count);
-        let n = number(text);
-        if n.is_number {
-            check_at(rt, image, n.value, dump, zc);
+    // The bytes of the dump, if they are whole words.
+    fn check_bytes(&self, rt: &(impl Print + Complain), name: &[u8], bytes: &[u8]) {
+        let left = bytes.len() % 8;
+        if left == 0 {
+            self.check_words(rt, bytes);
         } else {
-            problems::no_number(rt, text);
+            problems::left_over(rt, name, left as u64, (bytes.len() / 8) as u64);
+        }
+    }
+
+    fn check_file(&self, rt: &(impl Files + Print + Complain), name: &[u8]) {
+        let mut buffer = [0u8; DUMP_BYTES];
+        if let Some(bytes) = files::read(rt, name, &mut buffer) {
+            self.check_bytes(rt, name, bytes);
+        }
+    }
+
+    // The dump that argument i names.
+    fn check_dump(&self, rt: &(impl Files + Env + Print + Complain), i: usize) {
+        let mut buffer = [0u8; LONGEST_NAME];
+        if let Some(name) = arguments::read(rt, i, &mut buffer) {
+            self.check_file(rt, name);
+        }
+    }
+}
+
+// The operands by their numbers among the arguments, and whether Zcmp and Zcmt are on.
+#[derive(Clone, Copy)]
+pub(crate) struct Operands {
+    pub(crate) image: usize,
+    pub(crate) base: usize,
+    pub(crate) dump: usize,
+    pub(crate) zc: bool,
+}
+
+impl Operands {
+    // The image of this name, read into the lent buffer, and the dump.
+    fn check_into(
+        self,
+        rt: &(impl Files + Env + Print + Complain),
+        buffer: &mut [u8; IMAGE_BYTES],
+        name: &[u8],
+        base: u64,
+    ) {
+        if let Some(image) = files::read(rt, name, buffer) {
+            let firmware = Firmware {
+                image,
+                base,
+                zc: self.zc,
+            };
+            firmware.check_dump(rt, self.dump);
+        }
+    }
+
+    fn check_image(self, rt: &(impl Files + Env + Print + Complain), name: &[u8], base: u64) {
+        let mut buffer = [0u8; IMAGE_BYTES];
+        self.check_into(rt, &mut buffer, name, base);
+    }
+
+    fn check_at(self, rt: &(impl Files + Env + Print + Complain), base: u64) {
+        let mut buffer = [0u8; LONGEST_NAME];
+        if let Some(name) = arguments::read(rt, self.image, &mut buffer) {
+            self.check_image(rt, name, base);
+        }
+    }
+
+    pub(crate) fn check(self, rt: &(impl Files + Env + Print + Complain)) {
+        let mut buffer = [0u8; LONGEST_NAME];
+        if let Some(text) = arguments::read(rt, self.base, &mut buffer) {
+            match bases::number(text) {
+                Some(base) => self.check_at(rt, base),
+                None => problems::no_number(rt, text),
+            }
         }
     }
 }

@@ -4,13 +4,6 @@ use console::Complain;
 use std::fs::Files;
 use std::io::Read;
 
-// What a buffer was filled with: how many bytes, and whether they are all there are.
-#[derive(Drop)]
-pub(crate) struct Filled {
-    pub(crate) count: usize,
-    pub(crate) is_whole: bool,
-}
-
 // Whether a file has ended after so many bytes, the most that it may have. If not, or if a read fails,
 // that is told.
 fn has_ended(rt: &impl Complain, file: &mut impl Read, name: &[u8], most: usize) -> bool {
@@ -28,42 +21,40 @@ fn has_ended(rt: &impl Complain, file: &mut impl Read, name: &[u8], most: usize)
     }
 }
 
-// Whether all of a file was read.
-fn is_all(
+// How many bytes an open file has, put into the buffer. What is wrong with it is told.
+fn read_open(
     rt: &impl Complain,
     file: &mut impl Read,
     name: &[u8],
-    block: console::Filled,
-    most: usize,
-) -> bool {
-    match block.error {
-        Some(error) => {
-            problems::unreadable(rt, name, error);
-            false
-        }
-        None => block.count < most || has_ended(rt, file, name, most),
-    }
-}
-
-fn read_open(rt: &impl Complain, file: &mut impl Read, name: &[u8], buffer: &mut [u8]) -> Filled {
+    buffer: &mut [u8],
+) -> Option<usize> {
     let block = console::fill(file, buffer);
-    let is_whole = is_all(rt, file, name, block, buffer.len());
-    Filled {
-        count: block.count,
-        is_whole,
+    let most = buffer.len();
+    if let Some(error) = block.error {
+        problems::unreadable(rt, name, error);
+        return None;
+    }
+    if block.count < most || has_ended(rt, file, name, most) {
+        Some(block.count)
+    } else {
+        None
     }
 }
 
-// A file by its name. What is wrong with it is told.
-pub(crate) fn read(rt: &(impl Files + Complain), name: &[u8], buffer: &mut [u8]) -> Filled {
+// The bytes of a file by its name, in the lent buffer. What is wrong with it is told.
+pub(crate) fn read<'a>(
+    rt: &(impl Files + Complain),
+    name: &[u8],
+    buffer: &'a mut [u8],
+) -> Option<&'a [u8]> {
     match console::open(rt, name) {
-        Ok(mut file) => read_open(rt, &mut file, name, buffer),
+        Ok(mut file) => {
+            let count = read_open(rt, &mut file, name, buffer)?;
+            Some(text::before(buffer, count))
+        }
         Err(error) => {
             problems::unreadable(rt, name, error);
-            Filled {
-                count: 0,
-                is_whole: false,
-            }
+            None
         }
     }
 }

@@ -8,9 +8,9 @@ mod checks;
 mod files;
 mod problems;
 mod report;
-mod words;
 
-use arguments::unexpected;
+use arguments::{Request, unexpected};
+use checks::Operands;
 use console::Complain;
 use std::env::Env;
 use std::fs::Files;
@@ -25,26 +25,28 @@ fn print_usage(rt: &impl Print) {
 
 // What the operands ask for, the arguments from the first on that is no flag.
 fn run(rt: &(impl Files + Env + Print + Complain), first: usize, count: usize, zc: bool) {
-    if first >= count {
-        problems::missing(rt, b"image");
-    } else {
-        match count - first {
-            1 => problems::missing(rt, b"base"),
-            2 => problems::missing(rt, b"dump"),
-            3 => checks::run(rt, first, first + 1, first + 2, zc),
-            _ => unexpected(rt, first + 3),
+    match count.saturating_sub(first) {
+        0 => problems::missing(rt, b"image"),
+        1 => problems::missing(rt, b"base"),
+        2 => problems::missing(rt, b"dump"),
+        3 => {
+            let operands = Operands {
+                image: first,
+                base: first + 1,
+                dump: first + 2,
+                zc,
+            };
+            operands.check(rt);
         }
+        _ => unexpected(rt, first + 3),
     }
 }
 
 fn main(rt: HostRuntime) {
     let count = console::arg_count(&rt);
-    let o = arguments::read_flags(&rt, count);
-    if o.is_valid {
-        if count < 2 || o.help {
-            print_usage(&rt);
-        } else {
-            run(&rt, o.first, count, o.zc);
-        }
+    match arguments::read_request(&rt, count) {
+        Some(Request::Usage) => print_usage(&rt),
+        Some(Request::Check { zc, first }) => run(&rt, first, count, zc),
+        None => (),
     }
 }

@@ -210,6 +210,11 @@ plain_sorted w =
 pub plainly_decided : (w : ℕ) → plain_decision w ≡ plain_transfer w
 plainly_decided w = plain w ∙ transfer w (plain_of w) (plain_sorted w)
 
+pub by_plain_tests : (w : ℕ) → plain_transfer w ≡ plain_decision w
+by_plain_tests w = sym (plainly_decided w)
+
+pub ruleset by_tests = (by_plain_tests)
+
 -- exactly the row of a word's transfer has the word
 pub plainly_sorted : (w : ℕ) → Sorted w (plain_transfer w)
 plainly_sorted w = rw (← transfer w (plain_of w) (plain_sorted w)) (plain_sorted w)

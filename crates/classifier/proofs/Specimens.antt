@@ -8,7 +8,8 @@ use native.Mathlib.Omega.{arith}
 use lib.Dec.{eqb, ltb}
 use borrow.Author.Tests.{eqb-true, eqb-false, ne_eqb, ltb-true}
 use Rattle.bits.specs.Words.{field_at, is_from_to}
-use Rattle.bits.proofs.Cases.{Known, known, all_below, passed}
+use Rattle.std.proofs.lemmas.Bool.{agree_below, agree_below_at}
+use Rattle.bits.proofs.Cases.{Known, known, passed}
 use Rattle.classifier.specs.Instructions.{opcode, rd, funct3, rs1, C·op, C·funct3, C·funct4, CM·funct6, CM·index, CM·funct2, CM·rlist}
 use Rattle.classifier.specs.Transfers.{is_table_jump, is_table_call, is_pop_return}
 use Rattle.classifier.specs.Tables.{group_of, opcode_of, destination_of, base_of, register_of, pop_of, near_rank, far_rank, rank_of, low_of, row_of, column_of, key_of, specimen_of}
@@ -45,12 +46,11 @@ is_same false true h = h
 is_same false false h = refl
 
 -- whether a test of a number below n is one of what f gives for it too, computed of all
-keeps : (f : ℕ → ℕ) → ℕ → (ℕ → Bool) → Bool
-keeps f n p = all_below (λ r. same (p r) (p (f r))) n
+abbrev keeps : (f : ℕ → ℕ) → ℕ → (ℕ → Bool) → Bool
+keeps f n p = agree_below p (λ r. p (f r)) n
 
 kept : (f : ℕ → ℕ) (n : ℕ) (p : ℕ → Bool) → keeps f n p ≡ true → (r : ℕ) → r < n → p r ≡ p (f r)
-unfolding keeps
-kept f n p h r l = is_same _ _ (passed (λ r. same (p r) (p (f r))) n r h l)
+kept f n p h r l = agree_below_at p (λ r. p (f r)) n r h l
 
 -- what stands for a low part, and for a register as rs1
 abbrev low_for : ℕ → ℕ
@@ -293,7 +293,7 @@ module _ (w : ℕ) where
       parts w ∙ rw (same_c_funct4, same_low (λ x. p (4096 * f + x)) h) refl ∙ sym (parts (put l (funct3 w) s))
 
   alike_put : Alike w (put l (funct3 w) s)
-  unfolding keeps same rank_of far_rank pop_of near_rank group_of destination_of low_of opcode_of register_of base_of
+  unfolding rank_of far_rank pop_of near_rank group_of destination_of low_of opcode_of register_of base_of
   alike_put = record {
     opcode_63 = kept_opcode 0x63 refl;
     opcode_67 = kept_opcode 0x67 refl;
@@ -336,3 +336,5 @@ specimen_bound k h =
     let l = low_bound (k / 32) (omega arith) in
     let b = register_bound (k / 8 % 4) in
     omega (arith, l, b)
+
+pub ruleset bounds = (row_bound, column_bound, specimen_bound)

@@ -15,7 +15,7 @@ use Rattle.classifier.specs.Transfers.{is_table_jump, is_table_call, is_pop_retu
 use Rattle.classifier.specs.Decision.{register_jump_by, pop_return_by, pop_by, switched_by, plain_decision, decision_of}
 use Rattle.classifier.specs.Tables.{key_of, specimen_of}
 use Rattle.classifier.proofs.Specimens.{alike}
-use Rattle.classifier.proofs.Sorted.{Rows, rows_of, only, plainly_sorted, plainly_decided, plain_specimen}
+use Rattle.classifier.proofs.Sorted.{Rows, rows_of, only, plainly_sorted, plainly_decided, by_plain_tests, plain_specimen}
 use Rattle.classifier.specs.declared.Transfer.{Transfer}
 use Rattle.classifier.specs.declared.Transfer.TheVariants.{None, DirectCall, DirectJump, FunctionReturn}
 
@@ -204,6 +204,11 @@ decided true w = go (C·FSDSP w) refl
     go : (b : Bool) → C·FSDSP w ≡ b → decision_of true w ≡ transfer_of true w
     go true h = simp h (sym (inside w h))
     go false h = simp h (plainly_decided w ∙ sym (outside w h))
+
+pub by_all_tests : (zc : Bool) (w : ℕ) → transfer_of zc w ≡ decision_of zc w
+by_all_tests zc w = sym (decided zc w)
+
+pub ruleset by_tests = (by_plain_tests, by_all_tests)
 
 -- a word's transfer is that of the specimen of its key
 pub specimen_transfer : (zc : Bool) (w : ℕ) → transfer_of zc (specimen_of (key_of w)) ≡ transfer_of zc w

@@ -4,8 +4,8 @@ ghost use Rattle.classifier.specs.Instructions.{length_of};
 ghost use Rattle.classifier.specs.Transfers.{transfer_of, type_of};
 ghost use Rattle.classifier.specs.Exports.{classified};
 
-use crate::runs::{LONG, least, sort_long, sort_short};
-use crate::tables::filled_table;
+use crate::runs::{LONG, sort};
+use crate::tables::{filled_table, look_up};
 
 // The number of a word's type: 0 for none, and a branch is 5 if taken, else 4. The switch zc says whether the machine
 // has Zcmp and Zcmt.
@@ -33,10 +33,10 @@ pub extern "C" fn ctr_classify_all(words: &[u32], zc: bool, types: &mut [u8]) ->
     ensures count { result ≡ min (length words.now) (length types.old) }
     ensures filled { types.new ≡ classified zc words.now types.old }
 {
-    if least(words.len(), types.len()) < LONG {
-        sort_short(words, zc, types)
+    if words.len().min(types.len()) < LONG {
+        sort(words, types, |word| ctr_classify(word, true, zc))
     } else {
         let table = filled_table(zc);
-        sort_long(&table, words, zc, types)
+        sort(words, types, |word| look_up(&table, zc, word))
     }
 }

@@ -41,21 +41,19 @@ fn link(r: u32) -> bool
 }
 
 // The branch opcode. funct3 2 and 3 are reserved.
+#[tactic(auto, unfolding(crate::specs::Decision::branch_by))]
 fn branch(funct3: u32) -> Transfer
     ensures { result ≡ branch_by funct3 }
 {
     match funct3 {
-        0 => Transfer::Branch, // BEQ
-        1 => Transfer::Branch, // BNE
-        4 => Transfer::Branch, // BLT
-        5 => Transfer::Branch, // BGE
-        6 => Transfer::Branch, // BLTU
-        7 => Transfer::Branch, // BGEU
+        // BEQ, BNE, BLT, BGE, BLTU and BGEU
+        0 | 1 | 4 | 5 | 6 | 7 => Transfer::Branch,
         _ => Transfer::None,
     }
 }
 
 // JALR's opcode: funct3 not 0 is reserved.
+#[tactic(auto, unfolding(crate::specs::Decision::jalr_by))]
 fn jalr(funct3: u32, rd: u32, rs1: u32) -> Transfer
     ensures { result ≡ jalr_by funct3 rd rs1 }
 {
@@ -67,6 +65,7 @@ fn jalr(funct3: u32, rd: u32, rs1: u32) -> Transfer
 }
 
 // A jump by register, by its two registers.
+#[tactic(auto, unfolding(crate::specs::Decision::indirect_by))]
 fn indirect(rd: u32, rs1: u32) -> Transfer
     ensures { result ≡ indirect_by rd rs1 }
 {
@@ -92,6 +91,7 @@ fn indirect(rd: u32, rs1: u32) -> Transfer
 }
 
 // A jump by offset, by its register.
+#[tactic(auto, unfolding(crate::specs::Decision::direct_by))]
 fn direct(rd: u32) -> Transfer
     ensures { result ≡ direct_by rd }
 {
@@ -105,6 +105,7 @@ fn direct(rd: u32) -> Transfer
 }
 
 // A 32-bit instruction.
+#[tactic(auto, unfolding(crate::specs::Decision::wide_by))]
 fn wide(opcode: u32, funct3: u32, rd: u32, rs1: u32) -> Transfer
     ensures { result ≡ wide_by opcode funct3 rd rs1 }
 {
@@ -127,18 +128,19 @@ fn may_transfer(word: u32) -> bool
 }
 
 // C.J, C.BEQZ and C.BNEZ.
+#[tactic(auto, unfolding(crate::specs::Decision::quadrant1_by))]
 fn quadrant1(funct3: u32) -> Transfer
     ensures { result ≡ quadrant1_by funct3 }
 {
     match funct3 {
         5 => direct(0),
-        6 => Transfer::Branch,
-        7 => Transfer::Branch,
+        6 | 7 => Transfer::Branch,
         _ => Transfer::None,
     }
 }
 
 // C.JR, which is JALR with rd x0, and C.JALR, with rd x1. With rs1 x0 their codes are reserved and C.EBREAK.
+#[tactic(auto, unfolding(crate::specs::Decision::register_jump_by))]
 fn register_jump(funct4: u32, rs1: u32) -> Transfer
     ensures { result ≡ register_jump_by funct4 rs1 }
 {
@@ -154,6 +156,7 @@ fn register_jump(funct4: u32, rs1: u32) -> Transfer
 }
 
 // A pop-return. rlist below 4 is reserved.
+#[tactic(auto, unfolding(crate::specs::Decision::pop_return_by))]
 fn pop_return(rlist: u32) -> Transfer
     ensures { result ≡ pop_return_by rlist }
 {
@@ -165,19 +168,18 @@ fn pop_return(rlist: u32) -> Transfer
 }
 
 // CM.POPRET and CM.POPRETZ.
+#[tactic(auto, unfolding(crate::specs::Decision::pop_by))]
 fn pop(funct2: u32, rlist: u32) -> Transfer
     ensures { result ≡ pop_by funct2 rlist }
 {
-    if funct2 == 0b10 {
-        pop_return(rlist)
-    } else if funct2 == 0b00 {
-        pop_return(rlist)
-    } else {
-        Transfer::None
+    match funct2 {
+        0b00 | 0b10 => pop_return(rlist),
+        _ => Transfer::None,
     }
 }
 
 // Zcmt and Zcmp: CM.JT and CM.JALT have funct6 101000, the pop-returns 101111.
+#[tactic(auto, unfolding(crate::specs::Decision::switched_by))]
 fn switched(funct6: u32, index: u32, funct2: u32, rlist: u32) -> Transfer
     ensures { result ≡ switched_by funct6 index funct2 rlist }
 {
@@ -205,11 +207,12 @@ fn is_fsdsp(word: u32) -> bool
 fn is_switched(word: u32, zc: bool) -> bool
     ensures { result ≡ (zc && C·FSDSP word) }
 {
-    if zc { is_fsdsp(word) } else { false }
+    zc && is_fsdsp(word)
 }
 
 // The transfer that a word is with the switch off. C.JR and C.JALR have 2 in their seven low bits: with rs2 not x0
 // they would be C.MV and C.ADD.
+#[tactic(auto, using(crate::proofs::Sorted::by_tests), unfolding(crate::specs::Decision::plain_decision))]
 fn plain_transfer(word: u32) -> Transfer
     ensures { result ≡ plain_transfer word }
 {
@@ -235,6 +238,7 @@ fn plain_transfer(word: u32) -> Transfer
 }
 
 // The transfer that a word is.
+#[tactic(auto, using(crate::proofs::Switch::by_tests), unfolding(crate::specs::Decision::decision_of))]
 fn transfer_of(word: u32, zc: bool) -> Transfer
     ensures { result ≡ transfer_of zc word }
 {

@@ -1,45 +1,21 @@
-// Runs of words: the number of each word's type, a branch as taken, into a lent slice, for as many as both slices hold.
-// The rest of the slice stays as it was, and the answer is how many there are.
-ghost use Rattle.std.specs.Prelude.{◌≡◌, min, length};
-ghost use Rattle.classifier.specs.Exports.{classified};
-ghost use Rattle.classifier.specs.Tables.{Table};
-
-use crate::tables::{CELLS, look_up};
+// Runs of words, by whatever says the type of one.
+ghost use Rattle.std.specs.Prelude.{◌≡◌, ◌<◌, ℕ, min, length, slice_index};
+ghost use Rattle.std.specs.List.{SameFrom};
 
 // From how many words on a table pays: a thousand to some thousands, by how well the processor foresees them.
 pub const LONG: usize = 8192;
 
-pub fn least(a: usize, b: usize) -> usize
-    ensures { result ≡ min a b }
-{
-    if a < b { a } else { b }
-}
-
-// One by one.
-pub fn sort_short(words: &[u32], zc: bool, types: &mut [u8]) -> usize
+// Puts what type_of answers of each word into types, for as many as both slices hold, and answers how many there are.
+// The rest of types stays as it was.
+pub fn sort<F: Fn(u32) -> u8>(words: &[u32], types: &mut [u8], type_of: F) -> usize
+    requires { F.IsAlwaysCallable type_of }
     ensures count { result ≡ min (length words.now) (length types.old) }
-    ensures filled { types.new ≡ classified zc words.now types.old }
+    ensures sorted { (k : ℕ) → k < result → F.post type_of (slice_index words.now k) (slice_index types.new k) }
+    ensures rest { SameFrom types.old types.new result }
 {
-    let n = least(words.len(), types.len());
-    let mut i = 0;
-    while i < n {
-        types[i] = crate::exports::ctr_classify(words[i], true, zc);
-        i += 1;
-    }
-    n
-}
-
-// By a table that was filled with the switch zc, which stands here for the contract alone.
-pub fn sort_long(table: &[u8; CELLS], words: &[u32], zc: bool, types: &mut [u8]) -> usize
-    requires { Table zc table.now }
-    ensures count { result ≡ min (length words.now) (length types.old) }
-    ensures filled { types.new ≡ classified zc words.now types.old }
-{
-    let n = least(words.len(), types.len());
-    let mut i = 0;
-    while i < n {
-        types[i] = look_up(table, zc, words[i]);
-        i += 1;
+    let n = words.len().min(types.len());
+    for i in 0..n {
+        types[i] = type_of(words[i]);
     }
     n
 }

@@ -30,6 +30,7 @@ const POP_LOWS: u64 = 0x0E0E_0000_0000_0000;
 const FAR_LOWS: u64 = 0xC86_000_C82_402;
 
 // The opcodes that are told apart.
+#[tactic(auto, unfolding(crate::specs::Tables::group_of))]
 fn group(opcode: u32) -> u64
     ensures { result ≡ group_of opcode }
 {
@@ -51,6 +52,7 @@ fn group(opcode: u32) -> u64
 }
 
 // The rank of a low part by opcode and rd.
+#[tactic(auto, using(crate::proofs::Specimens::group_bound), unfolding(crate::specs::Tables::near_rank, crate::specs::Tables::destination_of))]
 fn near_rank(low: u32) -> u64
     requires { low < 4096 }
     ensures { result ≡ near_rank low }
@@ -60,6 +62,7 @@ fn near_rank(low: u32) -> u64
 
 // In quadrant 2, with bits 11..10 not 00: the opcode of C.JR and C.JALR, where pop-returns have the low part too or not;
 // of other opcodes pop-returns, and the rest, which are none.
+#[tactic(auto, unfolding(crate::specs::Tables::far_rank, crate::specs::Tables::pop_of))]
 fn far_rank(low: u32) -> u64
     requires { low < 4096 }
     ensures { result ≡ far_rank low }
@@ -73,6 +76,7 @@ fn far_rank(low: u32) -> u64
 }
 
 // The rank of a low part among 32. Bits 11..10 of a table jump are 00.
+#[tactic(auto, unfolding(crate::specs::Tables::rank_of))]
 fn rank(low: u32) -> u64
     requires { low < 4096 }
     ensures { result ≡ rank_of low }
@@ -89,6 +93,7 @@ fn rank(low: u32) -> u64
 }
 
 // Rows are multiples of 8, so that 4 times a row and a column make a key.
+#[tactic(auto, using(crate::proofs::Specimens::rank_bound), unfolding(crate::specs::Tables::row_of))]
 fn row(low: u32) -> u64
     requires { low < 4096 }
     ensures { result ≡ row_of low }
@@ -96,14 +101,16 @@ fn row(low: u32) -> u64
     8 * rank(low)
 }
 
+#[tactic(auto, unfolding(crate::specs::Tables::column_of, crate::specs::Tables::base_of))]
 fn column(high: u32) -> u64
     requires { high < 256 }
     ensures { result ≡ column_of high }
 {
-    ((high % 8) as u64) + 8 * bits::field64(BASES, 2 * (high / 8), 2)
+    u64::from(high % 8) + 8 * bits::field64(BASES, 2 * (high / 8), 2)
 }
 
 // The low part that stands for all of a rank.
+#[tactic(auto, unfolding(crate::specs::Tables::low_of, crate::specs::Tables::opcode_of, crate::specs::Tables::register_of))]
 fn low_part(rank: u32) -> u64
     requires { rank < 32 }
     ensures { result ≡ low_of rank }
@@ -117,16 +124,18 @@ fn low_part(rank: u32) -> u64
 }
 
 // The word that stands for all with a key.
+#[tactic(auto, using(crate::proofs::Specimens::low_bound), unfolding(crate::specs::Tables::specimen_of, crate::specs::Tables::register_of))]
 fn specimen(key: u32) -> u64
     requires { key < 1024 }
     ensures { result ≡ specimen_of key }
 {
     let low = low_part(key / 32);
     let rs1 = bits::field64(REGISTERS, 8 * (key / 8 % 4), 5);
-    low + 4096 * (((key % 8) as u64) + 8 * rs1)
+    low + 4096 * (u64::from(key % 8) + 8 * rs1)
 }
 
 // What is tabled at i.
+#[tactic(auto, using(crate::proofs::Specimens::bounds), unfolding(crate::specs::Tables::cell_of))]
 fn cell(zc: bool, i: u32) -> u8
     requires { i < 5376 }
     ensures { result ≡ cell_of zc i }
@@ -140,39 +149,24 @@ fn cell(zc: bool, i: u32) -> u8
     }
 }
 
+// A table filled with the switch zc.
 pub fn filled_table(zc: bool) -> [u8; CELLS]
     ensures { Table zc result }
 {
     let mut table = [0; CELLS];
-    let mut i = 0;
-    while i < CELLS {
-        table[i] = cell(zc, i as u32);
-        i += 1;
+    for (i, place) in table.iter_mut().enumerate() {
+        *place = cell(zc, i as u32);
     }
     table
 }
 
-fn widened(x: u8) -> usize
-    ensures { result ≡ x }
-{
-    x as usize
-}
-
-// A cell of a table that was filled with the switch zc, which stands here for the contract alone.
-fn look(table: &[u8; CELLS], zc: bool, i: usize) -> u8
-    requires table { Table zc table.now }
-    requires i_bound { i < 5376 }
-    ensures { result ≡ cell_of zc i }
-{
-    table[i]
-}
-
-// The type of a word, a branch as taken.
+// The type of a word, a branch as taken, by a table that was filled with the switch zc, which stands here for the
+// contract alone.
 pub fn look_up(table: &[u8; CELLS], zc: bool, word: u32) -> u8
     requires { Table zc table.now }
     ensures { result ≡ type_of (transfer_of zc word) true }
 {
-    let row = widened(look(table, zc, bits::field32(word, 0, 12) as usize));
-    let column = widened(look(table, zc, 4096 + (bits::field32(word, 12, 8) as usize)));
-    look(table, zc, 4352 + (4 * row + column))
+    let row = usize::from(table[bits::field32(word, 0, 12) as usize]);
+    let column = usize::from(table[4096 + bits::field32(word, 12, 8) as usize]);
+    table[4352 + (4 * row + column)]
 }

@@ -2,10 +2,11 @@
 // standard input, files by their names, arguments, and lines that say why something failed.
 #![tactic(auto)]
 
-ghost use Rattle.std.specs.Prelude.{◌≡◌, ◌&&◌, ◌<◌, ◌≤◌, length, take, IfOk, IsErrAnd, IsNone, IsTrue, IsUtf8};
+ghost use Rattle.std.specs.Prelude.{◌≡◌, ◌/◌, ◌<◌, ◌≤◌, ◌++◌, min, length, take, drop, IfOk, IsErrAnd, IsNone, IsTrue, IsUtf8};
 ghost use Rattle.std.specs.Io.KnownBytes.{Appends, Consumes, IsAtEnd};
 ghost use Rattle.std.specs.IoError.{error_kind};
 ghost use Rattle.console.specs.Complaints.{AppendsComplaint};
+ghost use Rattle.console.specs.Words.{words_of};
 
 use std::env::{Env, FillError};
 use std::fs::{self, Files};
@@ -25,7 +26,8 @@ impl Complain for HostRuntime {
     }
 }
 
-// What a buffer was filled with: how many bytes, and why a read failed, if one did.
+// What a buffer was filled with: how many bytes, and why a read failed, if one did. No Result: what came before a read
+// that failed counts.
 #[derive(Clone, Copy)]
 pub struct Filled {
     pub count: usize,
@@ -38,21 +40,13 @@ const EINVAL: i32 = 22;
 const ENAMETOOLONG: i32 = 36;
 
 // Room for the words that say why.
-const LONGEST: usize = 256;
+const LONGEST_REASON: usize = 256;
 
 // Room for the longest name of a file that the system takes.
-pub fn buffer() -> [u8; 4096]
-    ensures { 4096 ≡ length result }
-{
-    [0; 4096]
-}
+pub const LONGEST_NAME: usize = 4096;
 
 // Room for much data at a time.
-pub fn large_buffer() -> [u8; 65536]
-    ensures { 65536 ≡ length result }
-{
-    [0; 65536]
-}
+pub const BLOCK: usize = 65536;
 
 // Writes all bytes, and says whether they were written.
 pub fn write<W: Write>(to: &mut W, bytes: &[u8]) -> bool
@@ -83,6 +77,21 @@ pub fn fill<R: Read>(from: &mut R, buf: &mut [u8]) -> Filled
     Filled { count, error: None }
 }
 
+// Puts the 64-bit words of some bytes in place, each from its least significant byte on, as many as both hold, and
+// answers how many.
+pub fn put_words(words: &mut [u64], bytes: &[u8]) -> usize
+    ensures count { result ≡ min (length words.old) (length bytes.now / 8) }
+    ensures within { result ≤ length words.new }
+    ensures put { words.new ≡ words_of result bytes.now ++ drop result words.old }
+{
+    let (eights, _) = bytes.as_chunks::<8>();
+    let count = words.len().min(eights.len());
+    for (i, eight) in eights[..count].iter().enumerate() {
+        words[i] = u64::from_le_bytes(*eight);
+    }
+    count
+}
+
 // The file of this name, to be read. One that is no text names no file.
 pub fn open<R: Files>(rt: &R, name: &[u8]) -> io::Result<R::File>
     ensures text { IfOk result (λ _. IsUtf8 name.now) }
@@ -97,15 +106,13 @@ pub fn open<R: Files>(rt: &R, name: &[u8]) -> io::Result<R::File>
 // How many arguments the program was started with, its own name among them.
 pub fn arg_count(rt: &impl Env) -> usize {
     let mut first = [0u8; 1];
-    for i in 0..usize::MAX {
-        if let Err(FillError::NotPresent) = rt.arg(i, &mut first) {
-            return i;
-        }
-    }
-    usize::MAX
+    (0..usize::MAX)
+        .find(|i| matches!(rt.arg(*i, &mut first), Err(FillError::NotPresent)))
+        .unwrap_or(usize::MAX)
 }
 
 // Puts argument i at the start of the buffer and answers its length, unless it is missing or longer than the buffer.
+// Both error types are std's, so no From leads from one to the other.
 pub fn arg(rt: &impl Env, i: usize, buf: &mut [u8]) -> io::Result<usize>
     ensures { IfOk result (λ n. n ≤ length buf.new) }
 {
@@ -136,7 +143,7 @@ fn put_error(buf: &mut [u8], error: io::Error) -> usize {
 pub fn fail<W: Write>(to: &mut W, what: &[u8], error: io::Error) -> bool
     ensures { IsTrue result → AppendsComplaint (W.contents to.old) (W.contents to.new) what.now }
 {
-    let mut words = [0u8; LONGEST];
+    let mut words = [0u8; LONGEST_REASON];
     let count = put_error(&mut words, error);
     let shown = before(&words, count);
     let end = if error.raw_os_error().is_some() {
@@ -147,12 +154,6 @@ pub fn fail<W: Write>(to: &mut W, what: &[u8], error: io::Error) -> bool
     write_line(to, what, before(shown, end))
 }
 
-fn both(a: bool, b: bool) -> bool
-    ensures { result ≡ (a && b) }
-{
-    a && b
-}
-
 // What, a colon, words and the end of a line, each written whatever became of those before it.
 fn write_line<W: Write>(to: &mut W, what: &[u8], words: &[u8]) -> bool
     ensures { IsTrue result → AppendsComplaint (W.contents to.old) (W.contents to.new) what.now }
@@ -161,5 +162,5 @@ fn write_line<W: Write>(to: &mut W, what: &[u8], words: &[u8]) -> bool
     let parted = write(to, b": ");
     let told = write(to, words);
     let ended = write(to, b"\n");
-    both(both(named, parted), both(told, ended))
+    named & parted & told & ended
 }

@@ -1,3 +1,2 @@
--- What the numbers of a range reach, and when each refusal is given.
-pub mod Ranges
+-- When each refusal is given.
 pub mod Refusals

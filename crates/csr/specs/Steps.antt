@@ -1,12 +1,12 @@
 -- The access steps: why an access or SCTRCLR is refused, the first step that applies.
-use Rattle.std.specs.Prelude.{ℕ, Bool, true, false, not, ◌&&◌, ◌||◌}
+use Rattle.std.specs.Prelude.{ℕ, Ok, Err, Bool, true, false, not, ◌&&◌, ◌||◌}
 use Rattle.std.specs.Prelude.{if◌then◌else◌}
 use Rattle.bits.specs.Words.{is_from_to}
+use Rattle.machine.specs.Answers.{Verdict}
 use Rattle.machine.specs.Modes.{is_u, is_m, is_vu, is_vs}
 use Rattle.machine.specs.declared.Registers.{Registers}
 use Rattle.machine.specs.declared.Selects.{Selects}
-use Rattle.machine.specs.declared.Verdict.{Verdict}
-use Rattle.machine.specs.declared.Verdict.TheVariants.{Accepted, IllegalInstruction, VirtualInstruction, NoSuchRegister}
+use Rattle.machine.specs.declared.Refusal.TheVariants.{IllegalInstruction, VirtualInstruction, NoSuchRegister}
 use Rattle.csr.specs.Numbers.{view_in}
 use Rattle.csr.specs.declared.View.{View}
 use Rattle.csr.specs.declared.View.TheVariants.{Machine, Supervisor, Guest}
@@ -79,13 +79,13 @@ step5 r f = is_vs r.mode && (f.barred || (not r.enables.hstateen0 && f.gated))
 -- what the first step that applies says; accepted where none does
 unfoldable pub first_step : Bool → Bool → Bool → Bool → Bool → Bool → Verdict
 first_step one two three four five six =
-    if one then NoSuchRegister
-    else (if two then IllegalInstruction
-    else (if three then IllegalInstruction
-    else (if four then VirtualInstruction
-    else (if five then VirtualInstruction
-    else (if six then NoSuchRegister
-    else Accepted)))))
+    if one then Err NoSuchRegister
+    else (if two then Err IllegalInstruction
+    else (if three then Err IllegalInstruction
+    else (if four then Err VirtualInstruction
+    else (if five then Err VirtualInstruction
+    else (if six then Err NoSuchRegister
+    else Ok tt)))))
 
 -- what the steps say of an access: 1. unlisted; 2. and 3. as above; 4. from VU; 5. as above; 6. an ireg outside the window
 unfoldable pub refusal_of : Registers → Facts → Verdict

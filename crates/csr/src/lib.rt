@@ -5,7 +5,7 @@ pub mod numbers;
 pub mod steps;
 
 // Whose register it is: mctrctl is the machine's, sctrctl the supervisor's, vsctrctl the guest's.
-#[derive(Clone, Copy)]
+#[derive(Clone, Copy, PartialEq, Eq)]
 pub enum View {
     Machine,
     Supervisor,
@@ -25,7 +25,7 @@ pub enum Csr {
 }
 
 // What the access steps ask of a register or of SCTRCLR.
-#[derive(Clone, Copy)]
+#[derive(Clone, Copy, Default)]
 pub struct Facts {
     pub unlisted: bool,
     // a register of M alone

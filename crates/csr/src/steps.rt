@@ -5,8 +5,7 @@ ghost use Rattle.csr.specs.Steps.{select_of, selection_of, in_window, is_machine
 
 use crate::numbers::view_in;
 use crate::{Csr, Facts, View};
-use machine::modes::{is_m, is_u, is_vs, is_vu};
-use machine::{Registers, Selects, Verdict};
+use machine::{Mode, Refusal, Registers, Selects, Verdict};
 
 // The select register of a view.
 pub fn select(s: Selects, v: View) -> u64
@@ -24,40 +23,17 @@ pub fn selection(s: Selects, g: Csr) -> u64
     ensures { result ≡ selection_of s g }
 {
     match g {
-        Csr::Control(_) => 0,
-        Csr::Select(_) => 0,
         Csr::Ireg(v, _) => select(s, v),
-        Csr::Depth => 0,
-        Csr::Status => 0,
-        Csr::Unlisted => 0,
+        _ => 0,
     }
 }
 
 // Whether a selection reaches entries.
+#[tactic(auto, unfolding(crate::specs::Steps::in_window))]
 fn in_window(s: u64) -> bool
     ensures { result ≡ in_window s }
 {
     bits::is_from_to(0x200, 0x2FF, s)
-}
-
-fn is_machine(v: View) -> bool
-    ensures { result ≡ is_machine v }
-{
-    match v {
-        View::Machine => true,
-        View::Supervisor => false,
-        View::Guest => false,
-    }
-}
-
-fn is_guest(v: View) -> bool
-    ensures { result ≡ is_guest v }
-{
-    match v {
-        View::Machine => false,
-        View::Supervisor => false,
-        View::Guest => true,
-    }
 }
 
 // Of a control register; all but mctrctl are gated.
@@ -65,11 +41,8 @@ fn control_facts(v: View) -> Facts
     ensures { result ≡ facts false (is_machine v) (is_guest v) (not (is_machine v)) false }
 {
     Facts {
-        unlisted: false,
-        machine: is_machine(v),
-        barred: is_guest(v),
-        gated: !is_machine(v),
-        outside: false,
+        gated: v != View::Machine,
+        ..select_facts(v)
     }
 }
 
@@ -78,11 +51,9 @@ fn select_facts(v: View) -> Facts
     ensures { result ≡ facts false (is_machine v) (is_guest v) false false }
 {
     Facts {
-        unlisted: false,
-        machine: is_machine(v),
-        barred: is_guest(v),
-        gated: false, // no select register is
-        outside: false,
+        machine: v == View::Machine,
+        barred: v == View::Guest,
+        ..Facts::default()
     }
 }
 
@@ -91,11 +62,9 @@ fn ireg_facts(v: View, selection: u64) -> Facts
 {
     let gated = in_window(selection);
     Facts {
-        unlisted: false,
-        machine: is_machine(v),
-        barred: is_guest(v),
         gated,
         outside: !gated,
+        ..select_facts(v)
     }
 }
 
@@ -103,12 +72,11 @@ fn ireg_facts(v: View, selection: u64) -> Facts
 fn selection_in(r: Registers, v: View) -> u64
     ensures { result ≡ select_of r.selects (view_in r.mode v) }
 {
-    let m = r.mode;
-    let s = r.selects;
-    select(s, view_in(m, v))
+    select(r.selects, view_in(r.mode, v))
 }
 
 // What the steps ask of a register.
+#[tactic(auto, unfolding(crate::specs::Steps::facts_of))]
 pub fn facts_of(r: Registers, g: Csr) -> Facts
     ensures { result ≡ facts_of r g }
 {
@@ -117,25 +85,17 @@ pub fn facts_of(r: Registers, g: Csr) -> Facts
         Csr::Select(v) => select_facts(v),
         Csr::Ireg(v, _) => ireg_facts(v, selection_in(r, v)),
         Csr::Depth => Facts {
-            unlisted: false,
-            machine: false,
             barred: true,
             gated: true,
-            outside: false,
+            ..Facts::default()
         },
         Csr::Status => Facts {
-            unlisted: false,
-            machine: false,
-            barred: false,
             gated: true,
-            outside: false,
+            ..Facts::default()
         },
         Csr::Unlisted => Facts {
             unlisted: true,
-            machine: false,
-            barred: false,
-            gated: false,
-            outside: false,
+            ..Facts::default()
         },
     }
 }
@@ -145,92 +105,60 @@ pub fn sctrclr_facts() -> Facts
     ensures { result ≡ sctrclr_facts }
 {
     Facts {
-        unlisted: false,
-        machine: false,
-        barred: false,
         gated: true, // SCTRCLR is of step 3's list
-        outside: false,
+        ..Facts::default()
     }
 }
 
+#[tactic(auto, unfolding(crate::specs::Steps::step2))]
 fn by_step2(r: Registers, f: Facts) -> bool
     ensures { result ≡ step2 r f }
 {
-    let m = r.mode;
-    let machine = f.machine;
-    if is_u(m) {
-        true
-    } else if machine {
-        !is_m(m)
-    } else {
-        false
-    }
+    r.mode == Mode::U || f.machine && r.mode != Mode::M
 }
 
+#[tactic(auto, unfolding(crate::specs::Steps::step3))]
 fn by_step3(r: Registers, f: Facts) -> bool
     ensures { result ≡ step3 r f }
 {
-    let m = r.mode;
-    let enabled = r.enables.mstateen0;
-    if is_m(m) {
-        false
-    } else if enabled {
-        false
-    } else {
-        f.gated
-    }
+    r.mode != Mode::M && !r.enables.mstateen0 && f.gated
 }
 
+#[tactic(auto, unfolding(crate::specs::Steps::step5))]
 fn by_step5(r: Registers, f: Facts) -> bool
     ensures { result ≡ step5 r f }
 {
-    let m = r.mode;
-    let barred = f.barred;
-    let enabled = r.enables.hstateen0;
-    if is_vs(m) {
-        if barred {
-            true
-        } else if enabled {
-            false
-        } else {
-            f.gated
-        }
-    } else {
-        false
-    }
+    r.mode == Mode::VS && (f.barred || !r.enables.hstateen0 && f.gated)
 }
 
 // What the first step that applies says.
+#[tactic(auto, unfolding(crate::specs::Steps::first_step))]
 fn first_step(one: bool, two: bool, three: bool, four: bool, five: bool, six: bool) -> Verdict
     ensures { result ≡ first_step one two three four five six }
 {
     if one {
-        Verdict::NoSuchRegister
-    } else if two {
-        Verdict::IllegalInstruction
-    } else if three {
-        Verdict::IllegalInstruction
-    } else if four {
-        Verdict::VirtualInstruction
-    } else if five {
-        Verdict::VirtualInstruction
+        Err(Refusal::NoSuchRegister)
+    } else if two || three {
+        Err(Refusal::IllegalInstruction)
+    } else if four || five {
+        Err(Refusal::VirtualInstruction)
     } else if six {
-        Verdict::NoSuchRegister
+        Err(Refusal::NoSuchRegister)
     } else {
-        Verdict::Accepted
+        Ok(())
     }
 }
 
 // What the access steps say: the first that applies. Number 5 is the caller's to look for.
+#[tactic(auto, unfolding(crate::specs::Steps::refusal_of))]
 pub fn refusal(r: Registers, f: Facts) -> Verdict
     ensures { result ≡ refusal_of r f }
 {
-    let m = r.mode;
     first_step(
         f.unlisted,
         by_step2(r, f),
         by_step3(r, f),
-        is_vu(m),
+        r.mode == Mode::VU,
         by_step5(r, f),
         f.outside,
     )

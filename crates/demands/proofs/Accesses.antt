@@ -9,7 +9,8 @@ use lib.Dec.{ltb}
 use borrow.Author.Tests.{ne_eqb, ltb-true, le-ltb}
 use Rattle.std.specs.Prelude.{if◌then◌else◌}
 use Rattle.bits.specs.Words.{joined, without}
-use Rattle.machine.specs.Answers.{number_of, is_accepted, refused, accepted, accepted_clear}
+use Rattle.std.specs.Prelude.{Ok, Err}
+use Rattle.machine.specs.Answers.{Verdict, number_of, refusal_number, refused, accepted, accepted_clear}
 use Rattle.machine.specs.Entries.{defined_of}
 use Rattle.machine.specs.Modes.{is_virtual}
 use Rattle.machine.specs.Regs as Regs
@@ -27,8 +28,8 @@ use Rattle.machine.specs.declared.Mode.TheVariants.{U, S, M, VU, VS}
 use Rattle.machine.specs.declared.Operation.{Operation}
 use Rattle.machine.specs.declared.Operation.TheVariants.{Read, Write, Set, Clear}
 use Rattle.machine.specs.declared.Registers.{Registers}
-use Rattle.machine.specs.declared.Verdict.{Verdict}
-use Rattle.machine.specs.declared.Verdict.TheVariants.{Accepted, IllegalInstruction, VirtualInstruction, NoSuchRegister, ChangeNotPossible, BadState}
+use Rattle.machine.specs.declared.Refusal.{Refusal}
+use Rattle.machine.specs.declared.Refusal.TheVariants.{IllegalInstruction, VirtualInstruction, NoSuchRegister, ChangeNotPossible, BadState}
 use Rattle.machine.proofs.DepthLaws.{depth_le}
 use Rattle.csr.specs.Numbers.{register_of, view_in, csr_in}
 use Rattle.csr.specs.Steps.{select_of, selection_of, facts_of, sctrclr_facts, refusal_of}
@@ -37,7 +38,7 @@ use Rattle.csr.specs.declared.Csr.TheVariants.{Control, Select, Ireg, Depth, Sta
 use Rattle.csr.specs.declared.View.{View}
 use Rattle.csr.specs.declared.View.TheVariants.{Machine, Supervisor, Guest}
 use Rattle.access.specs.Accesses as Accesses
-use Rattle.access.specs.Accesses.{is_read, operand_of, write_of, operated_of, granted_of, access_to, access_of, sctrclr_of, host_of}
+use Rattle.access.specs.Accesses.{is_read, operand_of, write_of, operated_of, granted_of, unless_refused, access_to, access_of, sctrclr_of, host_of}
 use Rattle.access.specs.Readings.{status_of, stored_of, word_of, is_entry, entry_reading, control_reading, reading_of}
 use Rattle.access.specs.Writes.{control_written, select_written, depth_written, status_written, registers_written, with_stored, with_word, entry_written, effect_written}
 use Rattle.recorder.specs.Decisions.{event_of, decide_of}
@@ -54,22 +55,13 @@ use Rattle.demands.proofs.Free.{free}
 use Rattle.demands.proofs.Steps.{window, selected_is, granted_reach}
 use Rattle.demands.proofs.Tests.{depth_is, physical_is}
 
--- a verdict that accepts has number 0, and no other has
-accepts : (v : Verdict) → is_accepted v ≡ true → number_of v ≡ 0
-accepts Accepted h = refl
-accepts IllegalInstruction h = absurd (false≢true h)
-accepts VirtualInstruction h = absurd (false≢true h)
-accepts NoSuchRegister h = absurd (false≢true h)
-accepts ChangeNotPossible h = absurd (false≢true h)
-accepts BadState h = absurd (false≢true h)
-
-accepts_not : (v : Verdict) → is_accepted v ≡ false → number_of v ≡ 0 → ⊥
-accepts_not Accepted h z = false≢true (sym h)
-accepts_not IllegalInstruction h z = omega (arith, z)
-accepts_not VirtualInstruction h z = omega (arith, z)
-accepts_not NoSuchRegister h z = omega (arith, z)
-accepts_not ChangeNotPossible h z = omega (arith, z)
-accepts_not BadState h z = omega (arith, z)
+-- a refusal has another number than 0
+refuses : (e : Refusal) → refusal_number e ≡ 0 → ⊥
+refuses IllegalInstruction z = omega (arith, z)
+refuses VirtualInstruction z = omega (arith, z)
+refuses NoSuchRegister z = omega (arith, z)
+refuses ChangeNotPossible z = omega (arith, z)
+refuses BadState z = omega (arith, z)
 
 -- a granted access is what the definition grants
 module _ (s : State) (a : CsrAccess) where
@@ -90,21 +82,18 @@ module _ (s : State) (a : CsrAccess) where
       × ((step_of s (Access a)).value ≡ granted.value)
       × ((step_of s (Access a)).state ≡ state_of granted.registers (applied_of (entries_in s) granted.effect at))
   unfolding step_of applied_to decided_of decide_of event_of focus_of access_of access_to
-  access_granted = go (good_of r) refl (is_accepted k) refl
+  access_granted = go (good_of r) refl (refusal_of r (facts_of r (register_of a.number)))
     where
-      k : Verdict
-      k = refusal_of r (facts_of r (register_of a.number))
+      d : Bool → Verdict → Decision
+      d b k = if b then unless_refused k r granted else refused r BadState
 
-      d : Bool → Bool → Decision
-      d b c = if b then (if c then granted else refused r k) else refused r BadState
-
-      go : (b : Bool) → good_of r ≡ b → (c : Bool) → is_accepted k ≡ c → (d b c).number ≡ 0
-          → (good_of r ≡ true) × (number_of k ≡ 0) × ((d b c).value ≡ granted.value)
-          × (state_of (d b c).registers (applied_of (entries_in s) (d b c).effect at)
+      go : (b : Bool) → good_of r ≡ b → (k : Verdict) → (d b k).number ≡ 0
+          → (good_of r ≡ true) × (number_of k ≡ 0) × ((d b k).value ≡ granted.value)
+          × (state_of (d b k).registers (applied_of (entries_in s) (d b k).effect at)
           ≡ state_of granted.registers (applied_of (entries_in s) granted.effect at))
-      go true f true e h = (f, accepts k e, refl, refl)
-      go true f false e h = absurd (accepts_not k e h)
-      go false f c e h = absurd (omega (arith, h))
+      go true f (Ok _) h = (f, refl, refl, refl)
+      go true f (Err e) h = absurd (refuses e h)
+      go false f k h = absurd (omega (arith, h))
 
 -- whatever is written, the answer is the old reading
 granted_value : (r : Registers) (old : Entry) (g : Csr) (o : Operation) (x : ℕ) → (granted_of r old g o x).value ≡ reading_of r old g
@@ -295,19 +284,17 @@ access_done s a h =
 -- SCTRCLR and the host
 pub clear_done : (s : State) → (step_of s Sctrclr).number ≡ 0 → ((step_of s Sctrclr).value ≡ 0) × ((step_of s Sctrclr).state ≡ with_zeros s)
 unfolding step_of applied_to decided_of decide_of event_of focus_of sctrclr_of applied_of
-clear_done s = go (good_of s.registers) (is_accepted v) refl
+clear_done s = go (good_of s.registers) (refusal_of s.registers sctrclr_facts)
   where
-    v : Verdict
-    v = refusal_of s.registers sctrclr_facts
+    d : Bool → Verdict → Decision
+    d b v =
+        if b then unless_refused v s.registers (accepted_clear (Regs.with_cycles s.registers Regs.no_cycles)) else refused s.registers BadState
 
-    d : Bool → Bool → Decision
-    d b c = if b then (if c then accepted_clear (Regs.with_cycles s.registers Regs.no_cycles) else refused s.registers v) else refused s.registers BadState
-
-    go : (b c : Bool) → is_accepted v ≡ c → (d b c).number ≡ 0
-        → ((d b c).value ≡ 0) × (state_of (d b c).registers (applied_of (entries_in s) (d b c).effect (focus_of s.registers Sctrclr)) ≡ with_zeros s)
-    go true true e h = (refl, refl)
-    go true false e h = absurd (accepts_not v e h)
-    go false c e h = absurd (omega (arith, h))
+    go : (b : Bool) (v : Verdict) → (d b v).number ≡ 0
+        → ((d b v).value ≡ 0) × (state_of (d b v).registers (applied_of (entries_in s) (d b v).effect (focus_of s.registers Sctrclr)) ≡ with_zeros s)
+    go true (Ok _) h = (refl, refl)
+    go true (Err e) h = absurd (refuses e h)
+    go false v h = absurd (omega (arith, h))
 
 pub host_done : (s : State) (h : Enables) → (step_of s (Host h)).number ≡ 0
     → ((step_of s (Host h)).value ≡ 0) × ((step_of s (Host h)).state ≡ with_enables h s)

@@ -18,7 +18,8 @@ use Rattle.csr.specs.declared.View.TheVariants.{Machine, Supervisor, Guest}
 use Rattle.machine.specs.declared.CsrAccess.{CsrAccess}
 use Rattle.machine.specs.declared.Operation.{Operation}
 use Rattle.machine.specs.declared.Operation.TheVariants.{Read, Write, Set, Clear}
-use Rattle.recorder.specs.Entries.{Entries, entry_at, with_entry}
+use Rattle.recorder.specs.Entries.{entry_at, with_entry}
+use Rattle.recorder.specs.declared.Entries.{Entries}
 use Rattle.recorder.specs.Steps.{state_of, entries_in}
 use Rattle.machine.specs.declared.Event.{Event}
 use Rattle.machine.specs.declared.Event.TheVariants.{Retired, Trap, TrapReturn, Access, Sctrclr, Host}

@@ -68,7 +68,7 @@ abbrev pub Shown : Type 0
 Shown =
     ((step_of fresh call).value ≡ 1)
     × ((step_of later call).value ≡ 1)
-    × (Useless.all_zero later.ctrsource ≡ false)
+    × (Useless.all_zero later.entries.ctrsource ≡ false)
     × ((step_of (reset_state false) host).number ≡ 0)
 
 pub computed : BenchTable × Shown

@@ -21,7 +21,8 @@ use Rattle.transfers.specs.Transfers.{done_of, retired_of, in_mode, crossing, ta
 use Rattle.machine.specs.declared.Outcome.{Outcome}
 use Rattle.machine.specs.declared.Outcome.TheVariants.{Nothing, Record, Pop, Swap, Freeze}
 use Rattle.recorder.specs.Decisions.{event_of, decide_of}
-use Rattle.recorder.specs.Entries.{entry_at, with_entry, applied_of, Entries}
+use Rattle.recorder.specs.Entries.{entry_at, with_entry, applied_of}
+use Rattle.recorder.specs.declared.Entries.{Entries}
 use Rattle.recorder.specs.Events.{type_in, at_wrptr, focus_of}
 use Rattle.recorder.specs.Steps.{state_of, entries_in, decided_of, applied_to, step_of}
 use Rattle.machine.specs.declared.Event.{Event}

@@ -6,7 +6,8 @@ use mathlib.Core.Bool.{true}
 use native.Mathlib.Omega.{arith}
 use borrow.Author.Tests.{leb-true, ltb-true, eqb-true, le-leb, lt-ltb, eq-eqb}
 use Rattle.bits.specs.Words.{bit_at, keep}
-use Rattle.bits.proofs.Laws.{bit_keep, same_bits}
+use Rattle.std.proofs.lemmas.Nat.Bits.{same_from_bits}
+use Rattle.bits.proofs.Laws.{bit_keep}
 use Rattle.machine.specs.Depths.{depth_of}
 use Rattle.machine.specs.Good.{good_of}
 use Rattle.machine.proofs.GoodLaws.{parts, whole}
@@ -30,7 +31,7 @@ kept_bit x m h = ⊎_elim (λ z. omega arith) (λ o. omega (arith, h o)) (zero_o
         go (suc z) l = inr (omega arith)
 
 masked : (mask x : ℕ) → Within mask x → keep mask x ≡ x
-masked mask x h = same_bits _ _ (λ n. bit_keep mask x n ∙ kept_bit (x / 2 ^ n) (mask / 2 ^ n) (h n))
+masked mask x h = same_from_bits _ _ (λ n. bit_keep mask x n ∙ kept_bit (x / 2 ^ n) (mask / 2 ^ n) (h n))
 
 good_free : (r : Registers) → good_of r ≡ true → Free r
 good_free r h =

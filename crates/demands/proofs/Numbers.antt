@@ -7,13 +7,13 @@ use native.Mathlib.Omega.{arith}
 use borrow.Author.Tests.{eqb-false}
 use Rattle.std.specs.Prelude.{if◌then◌else◌}
 use Rattle.bits.proofs.Cases.{known}
-use Rattle.machine.specs.Answers.{number_of, refused}
+use Rattle.machine.specs.Answers.{number_of, refusal_number, refused}
 use Rattle.machine.specs.Good.{good_of}
 use Rattle.machine.specs.declared.Registers.{Registers}
 use Rattle.machine.specs.declared.Entry.{Entry}
 use Rattle.machine.specs.declared.Decision.{Decision}
-use Rattle.machine.specs.declared.Verdict.{Verdict}
-use Rattle.machine.specs.declared.Verdict.TheVariants.{ChangeNotPossible, BadState}
+use Rattle.machine.specs.declared.Refusal.{Refusal}
+use Rattle.machine.specs.declared.Refusal.TheVariants.{ChangeNotPossible, BadState}
 use Rattle.csr.specs.Numbers.{register_of}
 use Rattle.csr.specs.Steps.{facts_of, sctrclr_facts}
 use Rattle.csr.proofs.Refusals.{refusals}
@@ -93,10 +93,10 @@ line r old e = go (good_of r) (free r)
     go false d = bad (no d refl) refl
 
 -- a refusal's number, and that nothing else changes
-number_is : (r : Registers) (d : Decision) (v : Verdict) → d ≡ refused r v → d.number ≡ number_of v
+number_is : (r : Registers) (d : Decision) (v : Refusal) → d ≡ refused r v → d.number ≡ refusal_number v
 number_is r d v p = ap (λ (x : Decision). x.number) p
 
-unchanged : (r : Registers) (d : Decision) (v : Verdict) → d ≡ refused r v → Unchanged r d
+unchanged : (r : Registers) (d : Decision) (v : Refusal) → d ≡ refused r v → Unchanged r d
 unchanged r d v p = rw p (refl, refl, refl)
 
 -- the lines read off, each both ways

@@ -8,7 +8,7 @@ use native.Mathlib.Omega.{arith}
 use lib.Dec.{eqb, ltb}
 use lib.ListN.{length}
 use borrow.Author.Tests.{eqb-true, eqb-false, eq-eqb, ne_eqb, ltb-true, ltb-false}
-use Rattle.std.specs.Prelude.{if◌then◌else◌}
+use Rattle.std.specs.Prelude.{if◌then◌else◌, Result, Ok, Err}
 use Rattle.machine.specs.declared.Event.{Event}
 use Rattle.recorder.specs.Runs.{Recorder, end_of}
 use Rattle.recorder.specs.Steps.{step_of}
@@ -16,7 +16,7 @@ use Rattle.recorder.specs.declared.State.{State}
 use Rattle.trace.specs.Rows.{row_of}
 use Rattle.trace.specs.Runs.{is_well_formed, leading, Replay, unrun, ran_of, replay_of}
 use Rattle.trace.specs.declared.Replayed.{Replayed}
-use Rattle.trace.specs.declared.Row.{Row}
+use Rattle.trace.specs.declared.Malformed as Broken
 use Rattle.demands.specs.Rows.{Words, words, words_of, Fits, RowOf, Malformed, rows_of, AllFit, EveryRow}
 use Rattle.demands.specs.Replays.{filled, Rows, Room, WellFormedRows, StopsAfter, Replays, Numbers, OnlyReplay}
 use Rattle.demands.specs.Replays.Replays.{six, seven, nine, whole}
@@ -40,7 +40,7 @@ apart v u ws vs h =
     ((λ i. words (zeroth i) (first i) (second i) (third i)), (cc))
 
 -- a malformed row is of no event
-no_event : {r : Row} {k : ℕ} {e : Event} → r ≡ Row.Malformed k → r ≡ Row.WellFormed e → ⊥
+no_event : {r : Result Event Broken.Malformed} {k : Broken.Malformed} {e : Event} → r ≡ Err k → r ≡ Ok e → ⊥
 no_event p q = false≢true (sym (ap is_well_formed p) ∙ ap is_well_formed q)
 
 -- one more row before n rows
@@ -73,9 +73,9 @@ module _ (every : EveryRow) where
   walk (suc n) (w ∷ x ∷ y ∷ []) h = absurd (omega arith)
   walk (suc n) (w ∷ x ∷ y ∷ z ∷ ws) h = go (row_of w x y z) refl (walk n ws (omega arith))
     where
-      go : (r : Row) → row_of w x y z ≡ r → Walk ws n → Walk (w ∷ x ∷ y ∷ z ∷ ws) (suc n)
-      go (Row.WellFormed e) p more = after_row w x y z ws n e ((every.decoded (words w x y z) e).0 (sym p)) more
-      go (Row.Malformed k) p more =
+      go : (r : Result Event Broken.Malformed) → row_of w x y z ≡ r → Walk ws n → Walk (w ∷ x ∷ y ∷ z ∷ ws) (suc n)
+      go (Ok e) p more = after_row w x y z ws n e ((every.decoded (words w x y z) e).0 (sym p)) more
+      go (Err k) p more =
           let none : Malformed (words w x y z) = λ e q. no_event p (sym ((every.decoded (words w x y z) e).1 q)) in
           Walk.stops [] (omega arith) (record { w = w; x = x; y = y; z = z; rest = ws; fit = tt; malformed = none; same = refl })
 

@@ -5,7 +5,7 @@ use mathlib.Core.Bool.{Bool, true, false}
 use native.Mathlib.Omega.{arith}
 use lib.Dec.{eqb, ltb}
 use borrow.Author.Tests.{lt-ltb, ltb-true, eq-eqb, eqb-true}
-use Rattle.std.specs.Prelude.{if◌then◌else◌}
+use Rattle.std.specs.Prelude.{if◌then◌else◌, Result, Ok, Err}
 use Rattle.bits.specs.Words.{bit_at, field_at}
 use Rattle.machine.specs.declared.Mode.{Mode}
 use Rattle.machine.specs.declared.Mode.TheVariants.{U, S, M, VU, VS}
@@ -15,8 +15,7 @@ use Rattle.machine.specs.declared.Event.{Event}
 use Rattle.machine.specs.declared.Event.TheVariants.{Retired, Trap, TrapReturn, Access, Sctrclr, Host}
 use Rattle.trace.specs.Codes.{mode_of, operation_of}
 use Rattle.trace.specs.Rows.{has_mode, is_retired_row, retired_row, is_trap_row, trap_row, is_return_row, return_row, is_access_row, access_row, are_zeros, is_plain_row, plain_row, sctrclr_row, enables_in, host_row, row_by, row_of}
-use Rattle.trace.specs.declared.Row.{Row}
-use Rattle.trace.specs.declared.Row.TheVariants.{WellFormed, Malformed}
+use Rattle.trace.specs.declared.Malformed.{Malformed}
 use Rattle.demands.proofs.Decides.{Decides, pair}
 use Rattle.demands.specs.Rows.{Words, words, flag, mode_code, operation_code, words_of, Fits, RowOf, EveryRow}
 
@@ -49,7 +48,7 @@ module _ (h n : ℕ) (l : h < 0x100000000) where
 -- the words of an event are decoded to it
 retired_at : (h n word pc target : ℕ) → h % 0x100 ≡ 0 → h < 0x400 → word < 0x100000000
     → row_of (h + 0x100000000 * n) word pc target
-    ≡ WellFormed (Retired (record { word = word; pc = pc; target = target; taken = eqb (bit_at h 8) 1; mispredicted = eqb (bit_at h 9) 1; cycles = n }))
+    ≡ Ok (Retired (record { word = word; pc = pc; target = target; taken = eqb (bit_at h 8) 1; mispredicted = eqb (bit_at h 9) 1; cycles = n }))
 unfolding is_retired_row retired_row row_by row_of
 retired_at h n word pc target k l w =
     let f : h < 0x100000000 = omega (arith, l) in
@@ -57,7 +56,7 @@ retired_at h n word pc target k l w =
 
 retired : (taken misp : Bool) (n word pc target : ℕ) → word < 0x100000000
     → row_of (0 + 0x100 * flag taken + 0x200 * flag misp + 0x100000000 * n) word pc target
-    ≡ WellFormed (Retired (record { word = word; pc = pc; target = target; taken = taken; mispredicted = misp; cycles = n }))
+    ≡ Ok (Retired (record { word = word; pc = pc; target = target; taken = taken; mispredicted = misp; cycles = n }))
 retired true true n word pc target h = retired_at 0x300 n word pc target refl (omega arith) h
 retired true false n word pc target h = retired_at 0x100 n word pc target refl (omega arith) h
 retired false true n word pc target h = retired_at 0x200 n word pc target refl (omega arith) h
@@ -65,7 +64,7 @@ retired false false n word pc target h = retired_at 0 n word pc target refl (ome
 
 trap_at : (h n cause epc handler : ℕ) → h % 0x100 ≡ 1 → h < 0x1000 → field_at h 8 3 < 5
     → row_of (h + 0x100000000 * n) cause epc handler
-    ≡ WellFormed (Trap (record { mode = mode_of (field_at h 8 3); interrupt = eqb (bit_at h 11) 1; cause = cause; epc = epc; handler = handler; cycles = n }))
+    ≡ Ok (Trap (record { mode = mode_of (field_at h 8 3); interrupt = eqb (bit_at h 11) 1; cause = cause; epc = epc; handler = handler; cycles = n }))
 unfolding has_mode is_trap_row trap_row row_by row_of
 trap_at h n cause epc handler k l m =
     let f : h < 0x100000000 = omega (arith, l) in
@@ -73,7 +72,7 @@ trap_at h n cause epc handler k l m =
 
 trap : (m : Mode) (interrupt : Bool) (n cause epc handler : ℕ)
     → row_of (1 + 0x100 * mode_code m + 0x800 * flag interrupt + 0x100000000 * n) cause epc handler
-    ≡ WellFormed (Trap (record { mode = m; interrupt = interrupt; cause = cause; epc = epc; handler = handler; cycles = n }))
+    ≡ Ok (Trap (record { mode = m; interrupt = interrupt; cause = cause; epc = epc; handler = handler; cycles = n }))
 unfolding mode_of
 trap U true n cause epc handler = trap_at 0x801 n cause epc handler refl (omega arith) (omega arith)
 trap U false n cause epc handler = trap_at 0x001 n cause epc handler refl (omega arith) (omega arith)
@@ -88,7 +87,7 @@ trap VS false n cause epc handler = trap_at 0x401 n cause epc handler refl (omeg
 
 return_at : (h n pc target : ℕ) → h % 0x100 ≡ 2 → h < 0x800 → field_at h 8 3 < 5
     → row_of (h + 0x100000000 * n) 0 pc target
-    ≡ WellFormed (TrapReturn (record { mode = mode_of (field_at h 8 3); pc = pc; target = target; cycles = n }))
+    ≡ Ok (TrapReturn (record { mode = mode_of (field_at h 8 3); pc = pc; target = target; cycles = n }))
 unfolding has_mode is_return_row return_row row_by row_of
 return_at h n pc target k l m =
     let f : h < 0x100000000 = omega (arith, l) in
@@ -96,7 +95,7 @@ return_at h n pc target k l m =
 
 trap_return : (m : Mode) (n pc target : ℕ)
     → row_of (2 + 0x100 * mode_code m + 0x100000000 * n) 0 pc target
-    ≡ WellFormed (TrapReturn (record { mode = m; pc = pc; target = target; cycles = n }))
+    ≡ Ok (TrapReturn (record { mode = m; pc = pc; target = target; cycles = n }))
 unfolding mode_of
 trap_return U n pc target = return_at 0x002 n pc target refl (omega arith) (omega arith)
 trap_return S n pc target = return_at 0x102 n pc target refl (omega arith) (omega arith)
@@ -106,7 +105,7 @@ trap_return VS n pc target = return_at 0x402 n pc target refl (omega arith) (ome
 
 access : (o : Operation) (number operand : ℕ) → number < 4096
     → row_of (3 + 0x100 * operation_code o) number operand 0
-    ≡ WellFormed (Access (record { operation = o; number = number; operand = operand }))
+    ≡ Ok (Access (record { operation = o; number = number; operand = operand }))
 unfolding operation_of is_access_row access_row row_by row_of
 access Read number operand h = rw (lt-ltb _ _ h)
 access Write number operand h = rw (lt-ltb _ _ h)
@@ -114,7 +113,7 @@ access Set number operand h = rw (lt-ltb _ _ h)
 access Clear number operand h = rw (lt-ltb _ _ h)
 
 host : (m h : Bool)
-    → row_of (5 + 0x100 * flag m + 0x200 * flag h) 0 0 0 ≡ WellFormed (Host (record { mstateen0 = m; hstateen0 = h }))
+    → row_of (5 + 0x100 * flag m + 0x200 * flag h) 0 0 0 ≡ Ok (Host (record { mstateen0 = m; hstateen0 = h }))
 unfolding are_zeros is_plain_row plain_row row_by row_of
 host true true = refl
 host true false = refl
@@ -122,10 +121,10 @@ host false true = refl
 host false false = refl
 
 -- what four words are decoded to
-abbrev row : Words → Row
+abbrev row : Words → Result Event Malformed
 row w = row_of w.zero w.one w.two w.three
 
-of_event : (e : Event) → Fits e → row (words_of e) ≡ WellFormed e
+of_event : (e : Event) → Fits e → row (words_of e) ≡ Ok e
 unfolding are_zeros is_plain_row plain_row row_by row_of
 of_event (Retired w) h = retired w.taken w.mispredicted w.cycles w.word w.pc w.target h
 of_event (Trap t) h = trap t.mode t.interrupt t.cycles t.cause t.epc t.handler
@@ -134,7 +133,7 @@ of_event (Access a) h = access a.operation a.number a.operand h
 of_event Sctrclr h = refl
 of_event (Host x) h = host x.mstateen0 x.hstateen0
 
-to_event : (w : Words) (e : Event) → RowOf w e → row w ≡ WellFormed e
+to_event : (w : Words) (e : Event) → RowOf w e → row w ≡ Ok e
 to_event w e h = ap row h.same ∙ of_event e h.fits
 
 -- what a code stands for has that code
@@ -183,12 +182,12 @@ host_word : (w : ℕ) → w % 0x100 ≡ 5 → w < 0x400 → w ≡ 5 + 0x100 * fl
 host_word w k l = rw (flag_is (bit_at w 8) (omega arith), flag_is (bit_at w 9) (omega arith)) (omega arith)
 
 -- what four words are decoded to is right: if it is an event, that fits and has these words
-data Right (w : Words) : Row → Type 0 where
-  event : {e : Event} → RowOf w e → Right w (WellFormed e)
-  none : {n : ℕ} → Right w (Malformed n)
+data Right (w : Words) : Result Event Malformed → Type 0 where
+  event : {e : Event} → RowOf w e → Right w (Ok e)
+  none : {k : Malformed} → Right w (Err k)
 
 -- a row chosen by a test is right if the first is where the sentence that it decides holds, and the second is
-by : {w : Words} {x y : Row} {A : Type 0} {t : Bool} → Decides A t → (A → Right w x) → Right w y → Right w (if t then x else y)
+by : {w : Words} {x y : Result Event Malformed} {A : Type 0} {t : Bool} → Decides A t → (A → Right w x) → Right w y → Right w (if t then x else y)
 by {t = true} d f g = f (d.from refl)
 by {t = false} d f g = g
 
@@ -252,10 +251,10 @@ module _ (w a b c : ℕ) where
       (by (is (w % 0x100) 5) right_host none)))))
 
 -- so words that are decoded to an event are its words
-of_right : {w : Words} {e : Event} → Right w (WellFormed e) → RowOf w e
+of_right : {w : Words} {e : Event} → Right w (Ok e) → RowOf w e
 of_right (event h) = h
 
-of_row : (w : Words) (e : Event) → row w ≡ WellFormed e → RowOf w e
+of_row : (w : Words) (e : Event) → row w ≡ Ok e → RowOf w e
 of_row w e h = of_right (subst (Right w) h (right w.zero w.one w.two w.three))
 
 -- and two events of the same words are one, since both are what these are decoded to

@@ -14,7 +14,8 @@ use Rattle.recorder.specs.Steps.{step_of}
 use Rattle.recorder.specs.declared.State.{State}
 use Rattle.trace.specs.Rows.{row_of}
 use Rattle.trace.specs.Runs.{row_at, leading, answered, next, run_of}
-use Rattle.trace.specs.declared.Row.{Row}
+use Rattle.std.specs.Prelude.{Result, Ok, Err}
+use Rattle.trace.specs.declared.Malformed as Broken
 use Rattle.demands.specs.Rows.{words, words_of, Fits, Malformed, rows_of, AllFit, EveryRow}
 use Rattle.demands.specs.Replays.{answer_words, filled, Room}
 
@@ -46,15 +47,15 @@ answered_at p y z r i number value h =
     ∙ append_assoc p (number ∷ []) (value ∷ r)
 
 -- where a run stops: a well-formed row after well-formed rows, and a malformed one
-goes_on : (ws : List ℕ) (i : ℕ) (e : Event) → leading ws i ≡ i → row_at ws i ≡ Row.WellFormed e → leading ws (suc i) ≡ suc i
+goes_on : (ws : List ℕ) (i : ℕ) (e : Event) → leading ws i ≡ i → row_at ws i ≡ Ok e → leading ws (suc i) ≡ suc i
 unfolding leading
 goes_on ws i e p q = simp (p, q, eq-eqb i i refl)
 
-stuck : (ws : List ℕ) (i k : ℕ) → leading ws i ≡ i → row_at ws i ≡ Row.Malformed k → leading ws (suc i) ≡ i
+stuck : (ws : List ℕ) (i : ℕ) (k : Broken.Malformed) → leading ws i ≡ i → row_at ws i ≡ Err k → leading ws (suc i) ≡ i
 unfolding leading
 stuck ws i k p q = simp (p, q, eq-eqb i i refl)
 
-stops_there : (ws : List ℕ) (i k n : ℕ) → leading ws i ≡ i → row_at ws i ≡ Row.Malformed k → i < n → leading ws n ≡ i
+stops_there : (ws : List ℕ) (i : ℕ) (k : Broken.Malformed) (n : ℕ) → leading ws i ≡ i → row_at ws i ≡ Err k → i < n → leading ws n ≡ i
 unfolding leading
 stops_there ws i k n p q h =
     le_ind (λ (m : ℕ). leading ws m ≡ i) (stuck ws i k p q) (λ m l e. simp (e, ne_eqb i m (omega arith))) n h
@@ -78,7 +79,7 @@ module _ (every : EveryRow) (ws : List ℕ) (s : State) (a : List ℕ) where
   step e p r i t x y z b h k f same at =
       let w = words_of e in
       let u = step_of t e in
-      let row : row_at ws i ≡ Row.WellFormed e =
+      let row : row_at ws i ≡ Ok e =
       ap (λ (v : List ℕ). row_at v i) same ∙ row_at_lem p w.zero w.one w.two w.three r i h
       ∙ sym ((every.decoded w e).1 (record { fits = f; same = refl })) in
       record {
@@ -124,6 +125,6 @@ module _ (every : EveryRow) (ws : List ℕ) (s : State) (a : List ℕ) where
       row : row_at ws (length l) ≡ row_of w x y z
       row = ap (λ (v : List ℕ). row_at v (length l)) same ∙ row_at_lem (rows_of l) w x y z rest (length l) (rows_length l)
 
-      go : (r : Row) → row_of w x y z ≡ r → leading ws n ≡ length l
-      go (Row.WellFormed e) p = absurd (malformed e ((every.decoded (words w x y z) e).0 (sym p)))
-      go (Row.Malformed k) p = stops_there ws (length l) k n at.leads (row ∙ p) h
+      go : (r : Result Event Broken.Malformed) → row_of w x y z ≡ r → leading ws n ≡ length l
+      go (Ok e) p = absurd (malformed e ((every.decoded (words w x y z) e).0 (sym p)))
+      go (Err k) p = stops_there ws (length l) k n at.leads (row ∙ p) h

@@ -3,15 +3,16 @@
 use Rattle.std.specs.Prelude.{ℕ, ◌<◌, ◌≡◌, get_or}
 use Rattle.machine.specs.declared.Entry.{Entry}
 use Rattle.machine.specs.declared.Registers.{Registers}
-use Rattle.recorder.specs.Entries.{Entries, entry_at, with_entry}
+use Rattle.recorder.specs.Entries.{entry_at, with_entry}
+use Rattle.recorder.specs.declared.Entries.{Entries}
 use Rattle.recorder.specs.Steps.{state_of, entries_in, Whole}
 use Rattle.recorder.specs.declared.State.{State}
 
 pub record Parts : Type 0 where
-  -- physical entry i has word i of each of the state's three arrays, in this order
+  -- physical entry i has word i of each of the three arrays of the state's entries, in this order
   pub entry : (s : State) (i : ℕ)
       → entry_at (entries_in s) i
-      ≡ record { ctrsource = get_or s.ctrsource i 0; ctrtarget = get_or s.ctrtarget i 0; ctrdata = get_or s.ctrdata i 0 }
+      ≡ record { ctrsource = get_or s.entries.ctrsource i 0; ctrtarget = get_or s.entries.ctrtarget i 0; ctrdata = get_or s.entries.ctrdata i 0 }
   -- a state is its registers and its entries
   pub registers : (r : Registers) (w : Entries) → (state_of r w).registers ≡ r
   pub entries : (r : Registers) (w : Entries) → entries_in (state_of r w) ≡ w

@@ -1,5 +1,5 @@
 -- Rows of a trace (docs/RULES.md, W), said from the papers by themselves: the four words of each event, with literal numbers.
-use Rattle.std.specs.Prelude.{ℕ, ◌+◌, ◌*◌, ◌<◌, ◌≡◌, Bool, true, false, List, [], ◌∷◌, ◌↔◌}
+use Rattle.std.specs.Prelude.{ℕ, ◌+◌, ◌*◌, ◌<◌, ◌≡◌, Bool, true, false, List, [], ◌∷◌, ◌↔◌, Result, Ok}
 use Rattle.machine.specs.declared.Mode.{Mode}
 use Rattle.machine.specs.declared.Mode.TheVariants.{U, S, M, VU, VS}
 use Rattle.machine.specs.declared.Operation.{Operation}
@@ -7,8 +7,7 @@ use Rattle.machine.specs.declared.Operation.TheVariants.{Read, Write, Set, Clear
 use Rattle.machine.specs.declared.Event.{Event}
 use Rattle.machine.specs.declared.Event.TheVariants.{Retired, Trap, TrapReturn, Access, Sctrclr, Host}
 use Rattle.trace.proofs.rows.decode.Reads as Decode
-use Rattle.trace.specs.declared.Row.{Row}
-use Rattle.trace.specs.declared.Row.TheVariants.{WellFormed}
+use Rattle.trace.specs.declared.Malformed as Broken
 
 -- the four words of a row
 pub record Words : Type 0 where
@@ -79,11 +78,11 @@ AllFit [] = Unit {0}
 AllFit (e ∷ l) = Fits e × AllFit l
 
 -- a result that meets the `ensures` of `decode`
-abbrev pub Decoded : Words → Row → Type 0
+abbrev pub Decoded : Words → Result Event Broken.Malformed → Type 0
 Decoded w r =
     Decode.Learnt tt (w.zero, (w.one, (w.two, (w.three, tt)))) r (w.zero, (w.one, (w.two, (w.three, tt))))
 
 -- four words are decoded to an event exactly if they are its words and it fits; and no two events that fit have the same words
 pub record EveryRow : Type 0 where
-  pub decoded : (w : Words) (e : Event) → Decoded w (WellFormed e) ↔ RowOf w e
+  pub decoded : (w : Words) (e : Event) → Decoded w (Ok e) ↔ RowOf w e
   pub only : (w : Words) (e f : Event) → RowOf w e → RowOf w f → e ≡ f

@@ -11,7 +11,8 @@ use Rattle.machine.specs.declared.ControlRegister.{ControlRegister}
 use Rattle.machine.specs.declared.ControlRegister.TheVariants.{Mctrctl, Vsctrctl}
 use Rattle.machine.specs.declared.Enables.{Enables}
 use Rattle.machine.specs.declared.Registers.{Registers}
-use Rattle.recorder.specs.Entries.{Entries, entries_of}
+use Rattle.recorder.specs.Entries.{entries_of}
+use Rattle.recorder.specs.declared.Entries.{Entries}
 use Rattle.recorder.specs.Steps.{state_of}
 use Rattle.machine.specs.declared.Event.{Event}
 use Rattle.machine.specs.declared.Event.TheVariants.{Retired, Trap, TrapReturn, Access, Sctrclr, Host}

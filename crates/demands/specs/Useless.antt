@@ -26,7 +26,7 @@ NeverChanges f = (s : State) (w : RetiredWord) → (f s (Retired w)).state ≡ s
 
 -- records the first event and then coasts: says nothing once a ctrsource is not zero
 abbrev Coasts : Recorder → Type 0
-Coasts f = (s : State) (w : RetiredWord) → all_zero s.ctrsource ≡ false → (f s (Retired w)).value ≡ 0
+Coasts f = (s : State) (w : RetiredWord) → all_zero s.entries.ctrsource ≡ false → (f s (Retired w)).value ≡ 0
 
 -- says 1 without a record
 abbrev SaysOne : Recorder → Type 0

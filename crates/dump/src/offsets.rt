@@ -10,7 +10,7 @@ fn part(word: u32, n: u32, k: u32, to: u32) -> u64
     requires { to < 16 }
     ensures { result ≡ Offsets.part word n k to }
 {
-    (bits::field32(word, n, k) as u64) << to
+    u64::from(bits::field32(word, n, k)) << to
 }
 
 // Bit n of the word as the sign of a number: bit `to` and each one above.
@@ -64,6 +64,7 @@ fn short_branch_offset(word: u32) -> u64
         + part(word, 2, 1, 5)
 }
 
+#[tactic(auto, unfolding(crate::specs::Checks::branch_offset))]
 pub(crate) fn branch_offset(word: u32) -> u64
     ensures { result ≡ branch_offset word }
 {

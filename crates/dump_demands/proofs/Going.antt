@@ -11,7 +11,7 @@ use Rattle.classifier.specs.Instructions.{opcode, C·op, C·funct3, is16, length
 use Rattle.classifier.specs.Transfers.{is_branch, transfer_of, type_of}
 use Rattle.classifier.specs.Promise.{HasType}
 use Rattle.classifier.specs.declared.Transfer.{Transfer}
-use Rattle.classifier.specs.declared.Transfer.TheVariants.{None, Branch, IndirectCall, DirectCall, IndirectJump, DirectJump, CoroutineSwap, FunctionReturn, OtherIndirectJump, OtherDirectJump}
+use Rattle.classifier.specs.declared.Transfer.TheVariants.{Branch}
 use Rattle.classifier.proofs.Promise.{promise}
 use Rattle.dump.specs.Offsets.{J·offset, B·offset, CJ·offset, CB·offset}
 use Rattle.dump.specs.Checks.{moved, branch_offset, may_go, is_like}
@@ -20,30 +20,14 @@ use Rattle.dump_demands.proofs.Reaching.{J-reaches, B-reaches, CJ-reaches, CB-re
 
 -- of one type, taken or not
 same_type : (t : Transfer) (taken : Bool) (n : ℕ) → type_of t taken ≡ n → type_of t (eqb n 5) ≡ n
-same_type None taken n e = e
 same_type Branch true n e = rw (← e) refl
 same_type Branch false n e = rw (← e) refl
-same_type IndirectCall taken n e = e
-same_type DirectCall taken n e = e
-same_type IndirectJump taken n e = e
-same_type DirectJump taken n e = e
-same_type CoroutineSwap taken n e = e
-same_type FunctionReturn taken n e = e
-same_type OtherIndirectJump taken n e = e
-same_type OtherDirectJump taken n e = e
+same_type _ taken n e = e
 
 -- 4 and 5 are a branch's
 branch_type : (t : Transfer) (b : Bool) → 4 ≤ type_of t b → type_of t b ≤ 5 → type_of t true ≡ 5
-branch_type None b l h = absurd (omega arith)
 branch_type Branch b l h = refl
-branch_type IndirectCall b l h = absurd (omega arith)
-branch_type DirectCall b l h = absurd (omega arith)
-branch_type IndirectJump b l h = absurd (omega arith)
-branch_type DirectJump b l h = absurd (omega arith)
-branch_type CoroutineSwap b l h = absurd (omega arith)
-branch_type FunctionReturn b l h = absurd (omega arith)
-branch_type OtherIndirectJump b l h = absurd (omega arith)
-branch_type OtherDirectJump b l h = absurd (omega arith)
+branch_type _ b l h = absurd (omega arith)
 
 module _ (zc : Bool) (w n : ℕ) where
   pub like : (taken : Bool) → HasType zc w taken n → is_like zc w n ≡ true

@@ -10,18 +10,15 @@ use Rattle.bits.proofs.Cases.{known}
 use Rattle.classifier.specs.Transfers.{transfer_of, type_of}
 use Rattle.classifier.specs.Promise.{WordType}
 use Rattle.classifier.proofs.Promise.{promise}
-use Rattle.dump.specs.Checks.{reason_number, fetched_at, may_go, is_like, word_verdict, fetched_verdict, type_verdict}
+use Rattle.std.specs.Prelude.{Ok, Err, ◌==◌, if◌then◌else◌}
+use Rattle.dump.specs.Checks.{Fetched, Verdict, reason_number, fetched_at, may_go, is_like, word_verdict, fetched_verdict, type_verdict}
 use Rattle.dump_demands.specs.Fits as fits
 use Rattle.dump_demands.specs.Fits.{Firmware, Entry, OfWord, WordAt}
 use Rattle.dump_demands.specs.Fits.Fits.{event, transfer}
 use Rattle.dump_demands.specs.Fits.Breaks.{outside, cut_off, never, unlike, wrong}
 use Rattle.dump_demands.specs.Promise.{First}
-use Rattle.dump.specs.declared.Fetched.{Fetched}
-use Rattle.dump.specs.declared.Fetched.TheVariants as fetched
 use Rattle.dump.specs.declared.Reason.{Reason}
 use Rattle.dump.specs.declared.Reason.TheVariants.{SourceOutside, CutOff, TypeUnlike, TargetWrong}
-use Rattle.dump.specs.declared.Verdict.{Verdict}
-use Rattle.dump.specs.declared.Verdict.TheVariants.{Fits, Breaks}
 use Rattle.dump_demands.proofs.Fetching.{Means, means, given}
 use Rattle.dump_demands.proofs.Going.{like, has_type, branch, goes, may}
 
@@ -52,20 +49,20 @@ sorted n l = go (leb n 3) (leb n 5) (leb n 7) refl refl refl
 
 -- what is to prove of a verdict: of an entry that fits, that it does, and of one that breaks a reason, that
 abbrev pub Says : Firmware → Entry → Verdict → Type 0
-Says f e Fits = fits.Fits f e
-Says f e (Breaks r) = fits.Breaks f e (reason_number r)
+Says f e (Ok u) = fits.Fits f e
+Says f e (Err r) = fits.Breaks f e (reason_number r)
 
 -- a verdict that names a reason not after reason m
 abbrev pub NotAfter : ℕ → Verdict → Type 0
-NotAfter m Fits = ⊥
-NotAfter m (Breaks r) = reason_number r ≤ m
+NotAfter m (Ok u) = ⊥
+NotAfter m (Err r) = reason_number r ≤ m
 
 module _ (f : Firmware) (e : Entry) where
   -- the verdict, by type
   unfoldable pub verdict : Verdict
   verdict = type_verdict f.code f.base f.zc e.pc e.target e.type_number
 
-  of_event : Event e.type_number → verdict ≡ Fits
+  of_event : Event e.type_number → verdict ≡ Ok tt
   unfolding verdict type_verdict
   of_event (l, h) = simp (le-leb 1 e.type_number l, le-leb e.type_number 3 h)
 
@@ -89,7 +86,7 @@ module _ (f : Firmware) (e : Entry) where
         le-leb e.type_number 15 h,
       )
 
-  of_never : Never e.type_number → verdict ≡ Breaks TypeUnlike
+  of_never : Never e.type_number → verdict ≡ Err TypeUnlike
   unfolding verdict type_verdict
   of_never (inl h) = rw h refl
   of_never (inr (inl h)) = rw h refl
@@ -100,17 +97,17 @@ module _ (f : Firmware) (e : Entry) where
   at_source o x h = of_word o ∙ ap (λ (y : Fetched). fetched_verdict f.zc y e.pc e.target e.type_number) (given f e.pc x h)
 
   module _ (o : OfWord e.type_number) (w : ℕ) (h : WordAt f e.pc w) where
-    is_unlike : is_like f.zc w e.type_number ≡ false → verdict ≡ Breaks TypeUnlike
+    is_unlike : is_like f.zc w e.type_number ≡ false → verdict ≡ Err TypeUnlike
     unfolding fetched_verdict word_verdict
-    is_unlike n = at_source o (fetched.Word w) h ∙ simp n
+    is_unlike n = at_source o (Ok w) h ∙ simp n
 
-    is_wrong : is_like f.zc w e.type_number ≡ true → may_go e.pc w e.type_number e.target ≡ false → verdict ≡ Breaks TargetWrong
+    is_wrong : is_like f.zc w e.type_number ≡ true → may_go e.pc w e.type_number e.target ≡ false → verdict ≡ Err TargetWrong
     unfolding fetched_verdict word_verdict
-    is_wrong y n = at_source o (fetched.Word w) h ∙ simp (y, n)
+    is_wrong y n = at_source o (Ok w) h ∙ simp (y, n)
 
-    does_fit : is_like f.zc w e.type_number ≡ true → may_go e.pc w e.type_number e.target ≡ true → verdict ≡ Fits
+    does_fit : is_like f.zc w e.type_number ≡ true → may_go e.pc w e.type_number e.target ≡ true → verdict ≡ Ok tt
     unfolding fetched_verdict word_verdict
-    does_fit y n = at_source o (fetched.Word w) h ∙ simp (y, n)
+    does_fit y n = at_source o (Ok w) h ∙ simp (y, n)
 
   -- what a verdict says holds
   pub says : e.type_number < 16 → Says f e verdict
@@ -134,9 +131,11 @@ module _ (f : Firmware) (e : Entry) where
           positive (inr (p, q)) = omega arith
 
       by_source : (o : OfWord e.type_number) (x : Fetched) → Means f e.pc x → Says f e verdict
-      by_source o fetched.Outside m = rw (at_source o fetched.Outside m) (outside o m)
-      by_source o fetched.Cut m = rw (at_source o fetched.Cut m) (cut_off o m)
-      by_source o (fetched.Word w) m = by_tests o w m _ _ refl refl
+      by_source o (Err SourceOutside) m = rw (at_source o (Err SourceOutside) m) (outside o m)
+      by_source o (Err CutOff) m = rw (at_source o (Err CutOff) m) (cut_off o m)
+      by_source o (Err TypeUnlike) m = absurd m
+      by_source o (Err TargetWrong) m = absurd m
+      by_source o (Ok w) m = by_tests o w m _ _ refl refl
 
       by_type : Event e.type_number ⊎ OfWord e.type_number ⊎ Never e.type_number → Says f e verdict
       by_type (inl h) = rw (of_event h) (event h.0 h.1)
@@ -146,8 +145,8 @@ module _ (f : Firmware) (e : Entry) where
   -- and no reason before it is broken
   pub not_after : {m : ℕ} → fits.Breaks f e m → NotAfter m verdict
   unfolding fetched_verdict
-  not_after (outside o x) = rw (at_source o fetched.Outside x) (omega arith)
-  not_after (cut_off o x) = rw (at_source o fetched.Cut x) (omega arith)
+  not_after (outside o x) = rw (at_source o (Err SourceOutside) x) (omega arith)
+  not_after (cut_off o x) = rw (at_source o (Err CutOff) x) (omega arith)
   not_after (never h) = rw (of_never h) (omega arith)
   not_after (unlike w o h n) = go _ refl
     where
@@ -162,7 +161,7 @@ module _ (f : Firmware) (e : Entry) where
       go true true y g = absurd (n (goes e.pc w e.type_number e.target (branch f.zc w e.type_number y) g))
 
   -- an entry that fits has that verdict
-  pub given_fits : fits.Fits f e → verdict ≡ Fits
+  pub given_fits : fits.Fits f e → verdict ≡ Ok tt
   given_fits (event l h) = of_event (l, h)
   given_fits (transfer w taken h t p g) =
       let y = like f.zc w e.type_number taken t in
@@ -176,40 +175,35 @@ module _ (f : Firmware) (e : Entry) where
       of_words (inr (inr (inr z))) q = inr (omega (arith, z.0), omega (arith, z.1))
 
 -- reasons by their numbers
+numbered : ℕ → Reason
+numbered n = if n == 1 then SourceOutside else (if n == 2 then CutOff else (if n == 3 then TypeUnlike else TargetWrong))
+
+its_number : (r : Reason) → numbered (reason_number r) ≡ r
+unfolding numbered
+its_number SourceOutside = refl
+its_number CutOff = refl
+its_number TypeUnlike = refl
+its_number TargetWrong = refl
+
 same_reason : (r s : Reason) → reason_number r ≡ reason_number s → r ≡ s
-same_reason SourceOutside SourceOutside h = refl
-same_reason SourceOutside CutOff h = absurd (omega arith)
-same_reason SourceOutside TypeUnlike h = absurd (omega arith)
-same_reason SourceOutside TargetWrong h = absurd (omega arith)
-same_reason CutOff SourceOutside h = absurd (omega arith)
-same_reason CutOff CutOff h = refl
-same_reason CutOff TypeUnlike h = absurd (omega arith)
-same_reason CutOff TargetWrong h = absurd (omega arith)
-same_reason TypeUnlike SourceOutside h = absurd (omega arith)
-same_reason TypeUnlike CutOff h = absurd (omega arith)
-same_reason TypeUnlike TypeUnlike h = refl
-same_reason TypeUnlike TargetWrong h = absurd (omega arith)
-same_reason TargetWrong SourceOutside h = absurd (omega arith)
-same_reason TargetWrong CutOff h = absurd (omega arith)
-same_reason TargetWrong TypeUnlike h = absurd (omega arith)
-same_reason TargetWrong TargetWrong h = refl
+same_reason r s h = sym (its_number r) ∙ ap numbered h ∙ its_number s
 
 module _ (f : Firmware) (e : Entry) (l : e.type_number < 16) where
   -- the verdict that an entry fits is given exactly if it does
-  pub exactly_fits : fits.Fits f e ↔ (verdict f e ≡ Fits)
+  pub exactly_fits : fits.Fits f e ↔ (verdict f e ≡ Ok tt)
   exactly_fits = (given_fits f e, (λ h. subst (Says f e) h (says f e l)))
 
   -- and that it breaks a reason exactly if that is the first
-  pub exactly_first : (r : Reason) → First f e (reason_number r) ↔ (verdict f e ≡ Breaks r)
+  pub exactly_first : (r : Reason) → First f e (reason_number r) ↔ (verdict f e ≡ Err r)
   exactly_first r = (given_first, (λ h. (subst (Says f e) h (says f e l), (λ m n b. absurd (omega (arith, n, subst (NotAfter m) h (not_after f e b)))))))
     where
-      go : (v : Verdict) → Says f e v → NotAfter (reason_number r) v → ((m : ℕ) → m < reason_number r → fits.Breaks f e m → ⊥) → v ≡ Breaks r
-      go Fits s n none = absurd n
-      go (Breaks q) s n none =
-          ⊎_elim (λ h. ap Breaks (same_reason q r h)) (λ h. absurd (none (reason_number q) (omega (arith, n, eqb-false (reason_number q) (reason_number r) h)) s))
+      go : (v : Verdict) → Says f e v → NotAfter (reason_number r) v → ((m : ℕ) → m < reason_number r → fits.Breaks f e m → ⊥) → v ≡ Err r
+      go (Ok u) s n none = absurd n
+      go (Err q) s n none =
+          ⊎_elim (λ h. ap Err (same_reason q r h)) (λ h. absurd (none (reason_number q) (omega (arith, n, eqb-false (reason_number q) (reason_number r) h)) s))
           (known (reason_number q) (reason_number r))
 
-      given_first : First f e (reason_number r) → verdict f e ≡ Breaks r
+      given_first : First f e (reason_number r) → verdict f e ≡ Err r
       given_first (b, none) = go (verdict f e) (says f e l) (not_after f e b) none
 
   -- an entry that breaks nothing fits
@@ -217,8 +211,8 @@ module _ (f : Firmware) (e : Entry) (l : e.type_number < 16) where
   unbroken h = go (verdict f e) (says f e l)
     where
       go : (v : Verdict) → Says f e v → fits.Fits f e
-      go Fits s = s
-      go (Breaks r) s = absurd (h (reason_number r) s)
+      go (Ok u) s = s
+      go (Err r) s = absurd (h (reason_number r) s)
 
   pub unbroken_if : fits.Fits f e → (n : ℕ) → fits.Breaks f e n → ⊥
   unbroken_if h n b = subst (NotAfter n) (given_fits f e h) (not_after f e b)

@@ -1,11 +1,12 @@
 -- What a check of dumps answers, exactly: each answer is given if and only if its line here holds, and there are no others. `check` of the crate
 -- `dump` does that, and whatever does it answers the same.
-use Rattle.std.specs.Prelude.{ℕ, ◌*◌, ◌/◌, ◌%◌, ◌^◌, ◌<◌, ◌≡◌, List, ◌⊎◌, ◌↔◌, length}
+use Rattle.std.specs.Prelude.{ℕ, ◌*◌, ◌/◌, ◌%◌, ◌^◌, ◌<◌, ◌≡◌, List, ◌⊎◌, ◌↔◌, length, Result, Ok, Err}
 use Rattle.dump.specs.Checks.{check_of, reason_number}
 use Rattle.dump_demands.specs.Fits.{Firmware, Entry, end, entry, Valid, Fits, Breaks}
 use Rattle.dump.specs.declared.Reason.{Reason}
-use Rattle.dump.specs.declared.Checked.{Checked}
-use Rattle.dump.specs.declared.Checked.TheVariants.{Accepted, Refused, Misfit}
+use Rattle.dump.specs.declared.Refusal.TheVariants.{Length, Placement}
+use Rattle.dump.specs.declared.Rejection.{Rejection}
+use Rattle.dump.specs.declared.Rejection.TheVariants.{Refused, Misfit}
 
 -- what is refused before the first entry: a length that is no multiple of three; an odd base, or an end past 2^64
 abbrev pub NoMultiple : List ℕ → Type 0
@@ -26,15 +27,26 @@ AllFit f ws n = (i : ℕ) → i < n → Valid (entry ws i) → Fits f (entry ws 
 abbrev pub First : Firmware → Entry → ℕ → Type 0
 First f e n = Breaks f e n × ((m : ℕ) → m < n → Breaks f e m → ⊥)
 
+-- an answer: accepted, or why not
+abbrev pub Checked : Type 0
+Checked = Result (Unit {0}) Rejection
+
+-- the answer is a refusal with the number n: 6 of a dump's length, 11 of where the image lies
+abbrev pub IsRefused : ℕ → Checked → Type 0
+IsRefused n (Ok u) = ⊥
+IsRefused n (Err (Refused Length)) = 6 ≡ n
+IsRefused n (Err (Refused Placement)) = 11 ≡ n
+IsRefused n (Err (Misfit i r)) = ⊥
+
 -- what a check answers, of any check: a function from firmware and the words of a dump
 pub record Promise (check : Firmware → List ℕ → Checked) : Type 0 where
-  pub accepted : (f : Firmware) (ws : List ℕ) → check f ws ≡ Accepted ↔ (Looked f ws × AllFit f ws (length ws / 3))
+  pub accepted : (f : Firmware) (ws : List ℕ) → check f ws ≡ Ok tt ↔ (Looked f ws × AllFit f ws (length ws / 3))
   pub misfit : (f : Firmware) (ws : List ℕ) (i : ℕ) (r : Reason)
-      → check f ws ≡ Misfit i r
+      → check f ws ≡ Err (Misfit i r)
       ↔ (Looked f ws × (3 * i < length ws) × AllFit f ws i × Valid (entry ws i) × First f (entry ws i) (reason_number r))
-  pub six : (f : Firmware) (ws : List ℕ) → check f ws ≡ Refused 6 ↔ NoMultiple ws
-  pub eleven : (f : Firmware) (ws : List ℕ) → check f ws ≡ Refused 11 ↔ ((length ws % 3 ≡ 0) × Misplaced f)
-  pub refusals : (f : Firmware) (ws : List ℕ) (n : ℕ) → check f ws ≡ Refused n → (n ≡ 6) ⊎ (n ≡ 11)
+  pub six : (f : Firmware) (ws : List ℕ) → IsRefused 6 (check f ws) ↔ NoMultiple ws
+  pub eleven : (f : Firmware) (ws : List ℕ) → IsRefused 11 (check f ws) ↔ ((length ws % 3 ≡ 0) × Misplaced f)
+  pub refusals : (f : Firmware) (ws : List ℕ) (n : ℕ) → IsRefused n (check f ws) → (n ≡ 6) ⊎ (n ≡ 11)
 
 -- an entry fits exactly if it breaks nothing
 abbrev pub FitsOrBreaks : Type 0

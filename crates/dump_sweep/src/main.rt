@@ -11,11 +11,24 @@ mod cases;
 mod input;
 mod tally;
 
-use cases::{Setting, case_count, run_case};
-use input::{SPECIMENS, WORDS};
+use cases::{Group, Setting};
+use input::WORDS;
 use std::io;
-use std::num::wrapping_add_u64;
-use tally::{ANSWERS, Tally, none_after};
+use tally::Tally;
+use text::Page;
+
+// The groups, in the order in which they are printed.
+const GROUPS: [Group; 9] = [
+    Group::Good,
+    Group::Types,
+    Group::SourceBits,
+    Group::TargetBits,
+    Group::DataBits,
+    Group::ImagesCut,
+    Group::Bases,
+    Group::Lengths,
+    Group::Pairs,
+];
 
 // The bytes of an image.
 const SIZE: usize = 16;
@@ -32,10 +45,8 @@ fn image_of(word: u64, place: usize) -> [u8; SIZE]
     requires { place ≤ 8 }
 {
     let mut image = [1u8, 0, 1, 0, 1, 0, 1, 0, 1, 0, 1, 0, 1, 0, 1, 0];
-    image[place] = bits::field64(word, 0, 8) as u8;
-    image[place + 1] = bits::field64(word, 8, 8) as u8;
-    image[place + 2] = bits::field64(word, 16, 8) as u8;
-    image[place + 3] = bits::field64(word, 24, 8) as u8;
+    let bytes = word.to_le_bytes();
+    image[place..place + 4].copy_from_slice(&bytes[..4]);
     image
 }
 
@@ -49,87 +60,64 @@ fn base_of(k: u64) -> u64 {
     }
 }
 
-// Setting j of eight for a specimen at a place.
-fn setting_of(j: u64, place: usize, kind: u64, way: u64) -> Setting {
+// Setting j of eight for a specimen at a place in an image.
+fn setting_of(image: &[u8], place: usize, j: u64, kind: u64, way: u64) -> Setting<'_> {
     let base = base_of(j / 2);
-    let pc = wrapping_add_u64(base, place as u64);
+    let pc = base.wrapping_add(place as u64);
     Setting {
+        image,
         base,
         place,
         source: bits::set_bit0(pc),
-        target: wrapping_add_u64(pc, way),
+        target: pc.wrapping_add(way),
         kind,
         zc: j % 2 == 1,
     }
 }
 
-fn run_cases(t: Tally, group: u64, image: &[u8], s: Setting) -> Tally {
-    let count = case_count(group);
-    let mut next = t;
-    let mut i = 0;
-    while i < count {
-        next = run_case(next, group, i, image, s);
-        i += 1;
-    }
-    next
-}
-
 // Specimen k in all settings.
-fn run_specimen(t: Tally, group: u64, k: usize, word: u64, kind: u64, way: u64) -> Tally {
+fn run_specimen(tally: &mut Tally, group: Group, k: usize, word: u64, kind: u64, way: u64) {
     let place = place_of(k);
     let image = image_of(word, place);
-    let mut next = t;
-    let mut j = 0;
-    while j < 8 {
-        next = run_cases(next, group, &image, setting_of(j, place, kind, way));
-        j += 1;
+    for j in 0..8 {
+        let setting = setting_of(&image, place, j, kind, way);
+        for i in 0..group.case_count() {
+            setting.run_case(tally, group, i);
+        }
     }
-    next
 }
 
-fn run_group(words: &[u64; WORDS], group: u64, digest: u64) -> Tally {
-    let mut t = none_after(digest);
-    let mut k = 0;
-    while k < SPECIMENS {
-        t = run_specimen(
-            t,
-            group,
-            k,
-            words[3 * k],
-            words[3 * k + 1],
-            words[3 * k + 2],
-        );
-        k += 1;
+fn run_group(words: &[u64; WORDS], group: Group, digest: u64) -> Tally {
+    let mut tally = Tally::after(digest);
+    let (specimens, _) = words.as_chunks::<3>();
+    for (k, &[word, kind, way]) in specimens.iter().enumerate() {
+        run_specimen(&mut tally, group, k, word, kind, way);
     }
-    t
-}
-
-fn put_counts(out: &mut [u8], at: usize, counts: [u64; ANSWERS]) -> usize {
-    let mut next = at;
-    for k in 0..ANSWERS {
-        next = text::put_byte(out, next, b' ');
-        next = text::put_decimal(out, next, counts[k]);
-    }
-    text::put_byte(out, next, b'\n')
+    tally
 }
 
 // A group's line: its name and its counts. The digest goes on with the next group.
-fn report(rt: &impl Print, words: &[u64; WORDS], name: &[u8], group: u64, digest: u64) -> u64 {
-    let t = run_group(words, group, digest);
-    let mut out = [0u8; 256];
-    let mut at = text::put(&mut out, 0, name);
-    let counts = t.counts;
-    at = put_counts(&mut out, at, counts);
-    console::write(&mut io::writer(rt), text::before(&out, at));
-    t.digest
+fn report(rt: &impl Print, words: &[u64; WORDS], group: Group, digest: u64) -> u64 {
+    let tally = run_group(words, group, digest);
+    let mut buffer = [0u8; 256];
+    let mut line = Page::new(&mut buffer);
+    line.put(group.name());
+    for count in tally.counts {
+        line.put_byte(b' ');
+        line.put_decimal(count);
+    }
+    line.put_byte(b'\n');
+    console::write(&mut io::writer(rt), line.text());
+    tally.digest
 }
 
 fn report_digest(rt: &impl Print, digest: u64) {
-    let mut out = [0u8; 64];
-    let mut at = text::put(&mut out, 0, b"digest 0x");
-    at = text::put_hex(&mut out, at, digest, 16);
-    at = text::put_byte(&mut out, at, b'\n');
-    console::write(&mut io::writer(rt), text::before(&out, at));
+    let mut buffer = [0u8; 64];
+    let mut line = Page::new(&mut buffer);
+    line.put(b"digest 0x");
+    line.put_hex(digest, 16);
+    line.put_byte(b'\n');
+    console::write(&mut io::writer(rt), line.text());
 }
 
 fn main(rt: HostRuntime) {
@@ -139,14 +127,9 @@ fn main(rt: HostRuntime) {
         &mut io::writer(&rt),
         b"group accepted outside cut-off type target 6 11\n",
     );
-    let mut h = report(&rt, &words, b"good", 0, 0);
-    h = report(&rt, &words, b"types", 1, h);
-    h = report(&rt, &words, b"source-bits", 2, h);
-    h = report(&rt, &words, b"target-bits", 3, h);
-    h = report(&rt, &words, b"data-bits", 4, h);
-    h = report(&rt, &words, b"images-cut", 5, h);
-    h = report(&rt, &words, b"bases", 6, h);
-    h = report(&rt, &words, b"lengths", 7, h);
-    h = report(&rt, &words, b"pairs", 8, h);
-    report_digest(&rt, h);
+    let mut digest = 0;
+    for group in GROUPS {
+        digest = report(&rt, &words, group, digest);
+    }
+    report_digest(&rt, digest);
 }

@@ -1,59 +1,52 @@
 // Answers counted, and a digest of them all.
 ghost use Rattle.std.specs.Prelude.{◌<◌};
 
-use dump::Checked;
-use std::num::wrapping_add_u64;
-use test_support::digest;
+use dump::{Refusal, Rejection};
+use test_support::{count, digest};
 
 // How many answers there are: accepted, four reasons and two refusals.
-pub(crate) const ANSWERS: usize = 7;
+const ANSWERS: usize = 7;
 
-#[derive(Clone, Copy)]
+#[derive(Clone, Copy, Default)]
 pub(crate) struct Tally {
     pub(crate) counts: [u64; ANSWERS],
     pub(crate) digest: u64,
 }
 
-// No answer, after those of a digest.
-pub(crate) fn none_after(digest: u64) -> Tally {
-    Tally {
-        counts: [0; ANSWERS],
-        digest,
-    }
-}
-
-// The place of an answer's number among the counts.
-fn place(number: u64) -> usize
+// The place of an answer among the counts.
+fn place(answer: Result<(), Rejection>) -> usize
     ensures { result < 7 }
 {
-    match number {
-        0 => 0,
-        1 => 1,
-        2 => 2,
-        3 => 3,
-        4 => 4,
-        6 => 5,
-        _ => 6,
+    match answer {
+        Ok(()) => 0,
+        Err(Rejection::Misfit(_, reason)) => 1 + reason as usize,
+        Err(Rejection::Refused(Refusal::Length)) => 5,
+        Err(Rejection::Refused(Refusal::Placement)) => 6,
     }
 }
 
-// The index of a misfit.
-fn index(c: Checked) -> u64 {
-    match c {
-        Checked::Accepted => 0,
-        Checked::Refused(_) => 0,
-        Checked::Misfit(i, _) => i as u64,
+// The index of a misfit. Any other answer has 0.
+fn index(answer: Result<(), Rejection>) -> u64 {
+    match answer {
+        Err(Rejection::Misfit(i, _)) => i as u64,
+        _ => 0,
     }
 }
 
-// One check, and its answer among the others.
-pub(crate) fn checked(t: Tally, code: &[u8], base: u64, entries: &[u64], zc: bool) -> Tally {
-    let c = dump::check(code, base, entries, zc);
-    let number = dump::number(c);
-    let k = place(number);
-    let mut next = t;
-    next.counts[k] = wrapping_add_u64(next.counts[k], 1);
-    let h = digest(next.digest, number);
-    next.digest = digest(h, index(c));
-    next
+impl Tally {
+    // No answer, after those of a digest.
+    pub(crate) fn after(digest: u64) -> Tally {
+        Tally {
+            digest,
+            ..Tally::default()
+        }
+    }
+
+    // One check, and its answer among the others.
+    pub(crate) fn check(&mut self, code: &[u8], base: u64, entries: &[u64], zc: bool) {
+        let answer = dump::check(code, base, entries, zc);
+        count(&mut self.counts[place(answer)], true);
+        let with_number = digest(self.digest, dump::number(answer));
+        self.digest = digest(with_number, index(answer));
+    }
 }

@@ -1,40 +1,48 @@
 -- One of several lines: what is left of it from a byte on. Assumes nothing.
 use mathlib.Core.Path.{◌≡◌, refl, sym, ap, ◌∙◌}
-use mathlib.Core.Bool.{Bool, true, false}
+use Prim.Native.Nat.{ℕ, ◌+◌, ◌<◌, ◌≤◌}
 use mathlib.Core.List.{List, ◌∷◌}
-use Prim.Native.Nat.{ℕ, suc, ◌+◌, ◌<◌, ◌≤◌}
 use native.Mathlib.Numerals.{add-one}
-use native.Mathlib.Omega.{arith}
-use lib.Dec.{eqb}
-use lib.ListN.{length, get_or, drop}
-use lib.Seq.{drop-cons, drop-length}
-use Rattle.std.specs.Prelude.{if◌then◌else◌}
+use lib.ListN.{length, get_or, drop, drop_of_length-le}
+use lib.Seq.{drop-cons}
+use borrow.Author.Tests.{eq-eqb, ne_eqb}
 use Rattle.text.specs.Page.{Page, with_byte, written}
 use Rattle.history.specs.Lines.{newline, line_from}
 
--- one byte, whether it ends the line or not, and whether the line is asked for or not
-one : (x y : Bool) (p : Page) (b k n : ℕ) (s : List ℕ)
-    → written p (if x then line_from (k + 1) n s else (if y then b ∷ line_from k n s else line_from k n s))
-    ≡ written (if x then p else (if y then with_byte p b else p)) (line_from (if x then k + 1 else k) n s)
-unfolding written
-one true y p b k n s = refl
-one false true p b k n s = refl
-one false false p b k n s = refl
-
-first : (p : Page) (b k n : ℕ) (s : List ℕ)
-    → written p (line_from k n (b ∷ s))
-    ≡ written (if eqb b newline then p else (if eqb k n then with_byte p b else p)) (line_from (if eqb b newline then k + 1 else k) n s)
+-- a byte that ends a line, one of the line asked for, and one of another line
+end_first : (b k n : ℕ) (s : List ℕ) → b ≡ newline → line_from k n (b ∷ s) ≡ line_from (k + 1) n s
 unfolding line_from
-first p b k n s = one (eqb b newline) (eqb k n) p b k n s
+end_first b k n s h = rw (eq-eqb b newline h)
 
-pub more : (p q x : Page) (s : List ℕ) (k l n i : ℕ)
-    → q ≡ (if eqb (get_or s i 0) newline then p else (if eqb k n then with_byte p (get_or s i 0) else p))
-    → l ≡ (if eqb (get_or s i 0) newline then k + 1 else k)
-    → x ≡ written p (line_from k n (drop i s)) → i < length s → x ≡ written q (line_from l n (drop (i + 1) s))
-more p q x s k l n i e f g h =
-    g ∙ ap (λ (t : List ℕ). written p (line_from k n t)) (drop-cons s i 0 h) ∙ first p (get_or s i 0) k n (drop (suc i) s)
-    ∙ rw (← e, ← f, add-one i) refl
+asked_first : (b k n : ℕ) (s : List ℕ) → (b ≡ newline → ⊥) → k ≡ n → line_from k n (b ∷ s) ≡ b ∷ line_from k n s
+unfolding line_from
+asked_first b k n s h e = rw (ne_eqb b newline h, eq-eqb k n e)
 
-pub ended : (p x : Page) (s : List ℕ) (k n i : ℕ) → length s ≤ i → i ≤ length s → x ≡ written p (line_from k n (drop i s)) → p ≡ x
+other_first : (b k n : ℕ) (s : List ℕ) → (b ≡ newline → ⊥) → (k ≡ n → ⊥) → line_from k n (b ∷ s) ≡ line_from k n s
+unfolding line_from
+other_first b k n s h e = rw (ne_eqb b newline h, ne_eqb k n e)
+
+-- what is left from byte i on, which is that byte and what is left after it
+left : (x p : Page) (s : List ℕ) (k n i : ℕ) → x ≡ written p (line_from k n (drop i s)) → i < length s
+    → x ≡ written p (line_from k n (get_or s i 0 ∷ drop (i + 1) s))
+left x p s k n i e h = e ∙ rw (drop-cons s i 0 h, add-one i) refl
+
+-- the same, once byte i is done: it ends a line, is put, or is passed over
+pub ended : (x p : Page) (s : List ℕ) (k n i : ℕ) → x ≡ written p (line_from k n (drop i s)) → i < length s
+    → get_or s i 0 ≡ newline → x ≡ written p (line_from (k + 1) n (drop (i + 1) s))
+ended x p s k n i e h b = left x p s k n i e h ∙ ap (written p) (end_first _ k n _ b)
+
+pub put : (x p q : Page) (s : List ℕ) (k n i : ℕ) → x ≡ written p (line_from k n (drop i s)) → q ≡ with_byte p (get_or s i 0)
+    → i < length s → (get_or s i 0 ≡ newline → ⊥) → k ≡ n → x ≡ written q (line_from k n (drop (i + 1) s))
+unfolding written
+put x p q s k n i e f h b l =
+    left x p s k n i e h ∙ ap (written p) (asked_first _ k n _ b l) ∙ ap (λ (r : Page). written r (line_from k n (drop (i + 1) s))) (sym f)
+
+pub passed : (x p : Page) (s : List ℕ) (k n i : ℕ) → x ≡ written p (line_from k n (drop i s)) → i < length s
+    → (get_or s i 0 ≡ newline → ⊥) → (k ≡ n → ⊥) → x ≡ written p (line_from k n (drop (i + 1) s))
+passed x p s k n i e h b l = left x p s k n i e h ∙ ap (written p) (other_first _ k n _ b l)
+
+-- nothing is left
+pub none : (x p : Page) (s : List ℕ) (k n i : ℕ) → x ≡ written p (line_from k n (drop i s)) → length s ≤ i → p ≡ x
 unfolding written line_from
-ended p x s k n i h l e = let z : i ≡ length s = omega arith in sym (e ∙ rw (z, drop-length s) refl)
+none x p s k n i e l = sym (e ∙ ap (λ (t : List ℕ). written p (line_from k n t)) (drop_of_length-le s l))

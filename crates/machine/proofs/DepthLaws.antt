@@ -11,10 +11,6 @@ use Rattle.machine.specs.Depths.{top_code, depth_of}
 pub shifted : (k : ℕ) → k ≤ top_code → 16 * 2 ^ k % 2 ^ 64 ≡ 2 ^ (4 + k)
 shifted k h = shl_exact {a = 16} 5 k 64 (omega arith) (omega arith) ∙ sym (pow-add 2 4 k)
 
--- x & ((16 << k) - 1)
-pub mask_at : (x k : ℕ) → k ≤ top_code → bit_and x (16 * 2 ^ k % 2 ^ 64 - 1) ≡ x % 2 ^ (4 + k)
-mask_at x k h = rw (shifted k h) (and_mask x (4 + k))
-
 pub depth_pos : (c : ℕ) → 0 < depth_of c
 unfolding depth_of
 depth_pos c = pow_pos (4 + min c top_code)
@@ -27,6 +23,13 @@ pub depth_ge : (c : ℕ) → 2 ^ 4 ≤ depth_of c
 unfolding depth_of
 depth_ge c = pow_mono {i = 4} {j = 4 + min c top_code} (omega arith)
 
+-- x & (depth - 1)
+pub mask_at : (x c : ℕ) → bit_and x (depth_of c - 1) ≡ x % depth_of c
+unfolding depth_of
+mask_at x c = and_mask x (4 + min c top_code)
+
 -- a number modulo the depth is below the largest depth
 pub wrapped_lt : (x c : ℕ) → x % depth_of c < 2 ^ (4 + top_code)
 wrapped_lt x c = omega (arith, mod-lt x (depth_pos c), depth_le c)
+
+pub ruleset bounds = (depth_pos, depth_le, wrapped_lt)

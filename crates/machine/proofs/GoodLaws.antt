@@ -1,9 +1,8 @@
 -- Registers free of number 5, taken apart and put together. Assumes nothing.
-use mathlib.Core.Path.{◌≡◌, refl}
-use mathlib.Core.Bool.{Bool, true, false, ◌&&◌}
-use native.Mathlib.Omega.{arith}
+use mathlib.Core.Path.{◌≡◌}
+use mathlib.Core.Bool.{true}
 use lib.Dec.{eqb, leb, ltb}
-use Prim.Native.Nat.{ℕ}
+use Rattle.bits.proofs.Cases.{both}
 use Rattle.bits.specs.Words.{keep}
 use Rattle.machine.specs.Controls.{mctrctl_mask, sctrctl_mask}
 use Rattle.machine.specs.Depths.{top_code, depth_of}
@@ -16,14 +15,6 @@ pub record Good (r : Registers) : Type 0 where
   pub control : eqb (keep mctrctl_mask r.controls.mctrctl) r.controls.mctrctl ≡ true
   pub guest : eqb (keep sctrctl_mask r.controls.vsctrctl) r.controls.vsctrctl ≡ true
   pub counter : ltb r.cycles.counter counter_limit ≡ true
-
-never : ◌≡◌ {A = Bool} false true → ⊥
-never h = let z : ◌≡◌ {A = ℕ} 0 1 = cc in omega arith
-
-both : (a b : Bool) → (a && b) ≡ true → (a ≡ true) × (b ≡ true)
-both true true h = (refl, refl)
-both true false h = absurd (never h)
-both false b h = absurd (never h)
 
 pub parts : (r : Registers) → good_of r ≡ true → Good r
 unfolding good_of good_buffer good_controls

@@ -1,33 +1,16 @@
 // The numbers and values of answers, and what an event decides.
 ghost use Rattle.std.specs.Prelude.{◌≡◌, min};
-ghost use Rattle.machine.specs.Answers.{number_of, is_accepted, value_of, numbers, values, refused, accepted, accepted_put, accepted_clear};
+ghost use Rattle.machine.specs.Answers.{number_of, value_of, numbers, values, refused, accepted, accepted_put, accepted_clear};
 
-use crate::{Decision, Effect, Entry, Outcome, Registers, Verdict};
+use crate::{Decision, Effect, Entry, Outcome, Refusal, Registers, Verdict};
 
-// The number of a verdict.
+// The number of a verdict; 0 where it accepts.
 pub fn number(v: Verdict) -> u64
     ensures { result ≡ number_of v }
 {
     match v {
-        Verdict::Accepted => 0,
-        Verdict::IllegalInstruction => 1,
-        Verdict::VirtualInstruction => 2,
-        Verdict::NoSuchRegister => 3,
-        Verdict::ChangeNotPossible => 4,
-        Verdict::BadState => 5,
-    }
-}
-
-pub fn is_accepted(v: Verdict) -> bool
-    ensures { result ≡ is_accepted v }
-{
-    match v {
-        Verdict::Accepted => true,
-        Verdict::IllegalInstruction => false,
-        Verdict::VirtualInstruction => false,
-        Verdict::NoSuchRegister => false,
-        Verdict::ChangeNotPossible => false,
-        Verdict::BadState => false,
+        Ok(()) => 0,
+        Err(e) => e as u64,
     }
 }
 
@@ -35,13 +18,7 @@ pub fn is_accepted(v: Verdict) -> bool
 pub fn value(o: Outcome) -> u64
     ensures { result ≡ value_of o }
 {
-    match o {
-        Outcome::Nothing => 0,
-        Outcome::Record => 1,
-        Outcome::Pop => 2,
-        Outcome::Swap => 3,
-        Outcome::Freeze => 4,
-    }
+    o as u64
 }
 
 // How many numbers there are, and how many values of outcomes.
@@ -53,22 +30,22 @@ pub const VALUES: u64 = 5;
 pub fn number_index(number: u64) -> u64
     ensures { result ≡ min number numbers }
 {
-    if number < NUMBERS { number } else { NUMBERS }
+    number.min(NUMBERS)
 }
 
 // The place of a value among the values of outcomes.
 pub fn value_index(value: u64) -> u64
     ensures { result ≡ min value values }
 {
-    if value < VALUES { value } else { VALUES }
+    value.min(VALUES)
 }
 
 // Refused: nothing changes.
-pub fn refuse(r: Registers, v: Verdict) -> Decision
-    ensures { result ≡ refused r v }
+pub fn refuse(r: Registers, e: Refusal) -> Decision
+    ensures { result ≡ refused r e }
 {
     Decision {
-        number: number(v),
+        number: number(Err(e)),
         value: 0,
         registers: r,
         effect: Effect::Keep,
@@ -80,7 +57,7 @@ pub fn accept(r: Registers, value: u64) -> Decision
     ensures { result ≡ accepted r value }
 {
     Decision {
-        number: number(Verdict::Accepted),
+        number: number(Ok(())),
         value,
         registers: r,
         effect: Effect::Keep,
@@ -92,7 +69,7 @@ pub fn accept_put(r: Registers, value: u64, e: Entry) -> Decision
     ensures { result ≡ accepted_put r value e }
 {
     Decision {
-        number: number(Verdict::Accepted),
+        number: number(Ok(())),
         value,
         registers: r,
         effect: Effect::Put(e),
@@ -104,7 +81,7 @@ pub fn accept_clear(r: Registers) -> Decision
     ensures { result ≡ accepted_clear r }
 {
     Decision {
-        number: number(Verdict::Accepted),
+        number: number(Ok(())),
         value: 0,
         registers: r,
         effect: Effect::ClearAll,

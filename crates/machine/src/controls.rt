@@ -15,29 +15,7 @@ pub const MACHINE_MASK: u64 = 0x204;
 fn place(b: ControlBit) -> u32
     ensures { result ≡ place_of b }
 {
-    match b {
-        ControlBit::U => 0,
-        ControlBit::S => 1,
-        ControlBit::M => 2,
-        ControlBit::RASEMU => 7,
-        ControlBit::STE => 8,
-        ControlBit::MTE => 9,
-        ControlBit::BPFRZ => 11,
-        ControlBit::LCOFIFRZ => 12,
-        ControlBit::EXCINH => 33,
-        ControlBit::INTRINH => 34,
-        ControlBit::TRETINH => 35,
-        ControlBit::NTBREN => 36,
-        ControlBit::TKBRINH => 37,
-        ControlBit::INDCALLINH => 40,
-        ControlBit::DIRCALLINH => 41,
-        ControlBit::INDJMPINH => 42,
-        ControlBit::DIRJMPINH => 43,
-        ControlBit::CORSWAPINH => 44,
-        ControlBit::RETINH => 45,
-        ControlBit::INDLJMPINH => 46,
-        ControlBit::DIRLJMPINH => 47,
-    }
+    b as u32
 }
 
 // The word that a control register holds.
@@ -51,6 +29,7 @@ pub fn control_word(r: Registers, c: ControlRegister) -> u64
 }
 
 // Whether a control register has a bit set.
+#[tactic(auto, unfolding(crate::specs::Controls::is_set))]
 pub fn is_set(r: Registers, c: ControlRegister, b: ControlBit) -> bool
     ensures { result ≡ is_set r c b }
 {

@@ -9,23 +9,23 @@ pub const TOP_CODE: u64 = 4;
 pub fn capped(code: u64) -> u64
     ensures { result ≡ min code top_code }
 {
-    if code < TOP_CODE { code } else { TOP_CODE }
+    code.min(TOP_CODE)
 }
 
 // The depth of a depth code.
+#[tactic(auto, using(crate::proofs::DepthLaws::shifted), unfolding(crate::specs::Depths::depth_of))]
 pub fn depth(code: u64) -> u64
     ensures { result ≡ depth_of code }
 {
-    let k = capped(code);
-    16 << k
+    16 << capped(code)
 }
 
 // x modulo the depth of a depth code.
+#[tactic(auto, using(crate::proofs::DepthLaws::mask_at, crate::proofs::DepthLaws::depth_pos))]
 pub fn wrapped(x: u64, code: u64) -> u64
     ensures { result ≡ x % depth_of code }
 {
-    let k = capped(code);
-    x & ((16 << k) - 1)
+    x & (depth(code) - 1)
 }
 
 // Whether x is below the depth of a depth code.
@@ -36,6 +36,7 @@ pub fn in_depth(x: u64, code: u64) -> bool
 }
 
 // The physical entry of logical entry i.
+#[tactic(auto, using(crate::proofs::DepthLaws::bounds), unfolding(crate::specs::Depths::physical_of))]
 pub fn physical(code: u64, wrptr: u64, i: u64) -> u64
     ensures { result ≡ physical_of code wrptr i }
 {

@@ -1,36 +1,23 @@
 // Number 5: whether registers are free of it.
-ghost use Rattle.std.specs.Prelude.{◌≡◌, leb};
-ghost use Rattle.machine.specs.Depths.{top_code};
+ghost use Rattle.std.specs.Prelude.{◌≡◌};
 ghost use Rattle.machine.specs.Good.{good_buffer, good_controls, good_cycles, good_of};
 
 use crate::controls::{MCTRCTL_MASK, SCTRCTL_MASK, within};
 use crate::depths::{TOP_CODE, in_depth};
 use crate::{Buffer, ControlWords, Cycles, Registers};
 
-fn is_code(code: u64) -> bool
-    ensures { result ≡ leb code top_code }
-{
-    code <= TOP_CODE
-}
-
+#[tactic(auto, unfolding(crate::specs::Good::good_buffer))]
 fn is_good_buffer(b: Buffer) -> bool
     ensures { result ≡ good_buffer b }
 {
-    if is_code(b.code) {
-        in_depth(b.wrptr, b.code)
-    } else {
-        false
-    }
+    b.code <= TOP_CODE && in_depth(b.wrptr, b.code)
 }
 
+#[tactic(auto, unfolding(crate::specs::Good::good_controls))]
 fn is_good_controls(c: ControlWords) -> bool
     ensures { result ≡ good_controls c }
 {
-    if within(c.mctrctl, MCTRCTL_MASK) {
-        within(c.vsctrctl, SCTRCTL_MASK)
-    } else {
-        false
-    }
+    within(c.mctrctl, MCTRCTL_MASK) && within(c.vsctrctl, SCTRCTL_MASK)
 }
 
 // The cycle counter is below this.
@@ -43,19 +30,9 @@ fn is_good_cycles(c: Cycles) -> bool
 }
 
 // Whether the registers are free of number 5.
+#[tactic(auto, unfolding(crate::specs::Good::good_of))]
 pub fn is_good(r: Registers) -> bool
     ensures { result ≡ good_of r }
 {
-    let b = r.buffer;
-    let c = r.controls;
-    let y = r.cycles;
-    if is_good_buffer(b) {
-        if is_good_controls(c) {
-            is_good_cycles(y)
-        } else {
-            false
-        }
-    } else {
-        false
-    }
+    is_good_buffer(r.buffer) && is_good_controls(r.controls) && is_good_cycles(r.cycles)
 }

@@ -9,7 +9,7 @@ pub mod good;
 pub mod modes;
 pub mod regs;
 
-#[derive(Clone, Copy)]
+#[derive(Clone, Copy, PartialEq, Eq)]
 pub enum Mode {
     U,
     S,
@@ -19,67 +19,67 @@ pub enum Mode {
 }
 
 // A control register; sctrctl is a window on mctrctl.
-#[derive(Clone, Copy)]
+#[derive(Clone, Copy, PartialEq, Eq)]
 pub enum ControlRegister {
     Mctrctl,
     Vsctrctl,
 }
 
-// A bit of a control register.
-#[derive(Clone, Copy)]
+// A bit of a control register, and its place there.
+#[derive(Clone, Copy, PartialEq, Eq)]
 pub enum ControlBit {
-    U,
-    S,
-    M,
-    RASEMU,
-    STE,
-    MTE,
-    BPFRZ,
-    LCOFIFRZ,
-    EXCINH,
-    INTRINH,
-    TRETINH,
-    NTBREN,
-    TKBRINH,
-    INDCALLINH,
-    DIRCALLINH,
-    INDJMPINH,
-    DIRJMPINH,
-    CORSWAPINH,
-    RETINH,
-    INDLJMPINH,
-    DIRLJMPINH,
+    U = 0,
+    S = 1,
+    M = 2,
+    RASEMU = 7,
+    STE = 8,
+    MTE = 9,
+    BPFRZ = 11,
+    LCOFIFRZ = 12,
+    EXCINH = 33,
+    INTRINH = 34,
+    TRETINH = 35,
+    NTBREN = 36,
+    TKBRINH = 37,
+    INDCALLINH = 40,
+    DIRCALLINH = 41,
+    INDJMPINH = 42,
+    DIRJMPINH = 43,
+    CORSWAPINH = 44,
+    RETINH = 45,
+    INDLJMPINH = 46,
+    DIRLJMPINH = 47,
 }
 
-#[derive(Clone, Copy)]
+#[derive(Clone, Copy, Default, PartialEq, Eq)]
 pub struct ControlWords {
     pub mctrctl: u64,
     pub vsctrctl: u64,
 }
 
 // The buffer but for its entries: the depth code, WRPTR and FROZEN.
-#[derive(Clone, Copy)]
+#[derive(Clone, Copy, Default)]
 pub struct Buffer {
     pub code: u64,
     pub wrptr: u64,
     pub frozen: bool,
 }
 
-#[derive(Clone, Copy)]
+#[derive(Clone, Copy, Default)]
 pub struct Selects {
     pub siselect: u64,
     pub vsiselect: u64,
 }
 
 // The CTR bits of the state-enable registers.
-#[derive(Clone, Copy)]
+#[derive(Clone, Copy, Default)]
 pub struct Enables {
     pub mstateen0: bool,
     pub hstateen0: bool,
 }
 
 // The cycle counter, and the CCV that an ordinary record would now get.
-#[derive(Clone, Copy)]
+#[derive(Clone, Copy, Default)]
 pub struct Cycles {
     pub counter: u64,
     pub ccv: bool,
@@ -143,7 +143,7 @@ pub struct ReturnTo {
     pub cycles: u32,
 }
 
-#[derive(Clone, Copy)]
+#[derive(Clone, Copy, PartialEq, Eq)]
 pub enum Operation {
     Read,
     Write,
@@ -171,25 +171,27 @@ pub enum Event {
     Host(Enables),
 }
 
-// Whether an event is accepted, and why not.
-#[derive(Clone, Copy)]
-pub enum Verdict {
-    Accepted,
-    IllegalInstruction,
-    VirtualInstruction,
-    NoSuchRegister,
-    ChangeNotPossible,
-    BadState,
+// Why an event is refused, with the number of each.
+#[derive(Clone, Copy, PartialEq, Eq)]
+pub enum Refusal {
+    IllegalInstruction = 1,
+    VirtualInstruction = 2,
+    NoSuchRegister = 3,
+    ChangeNotPossible = 4,
+    BadState = 5,
 }
 
-// What comes of a retired word, a trap or a trap return.
-#[derive(Clone, Copy)]
+// Whether an event is accepted, and why not.
+pub type Verdict = Result<(), Refusal>;
+
+// What comes of a retired word, a trap or a trap return, with the value of each.
+#[derive(Clone, Copy, PartialEq, Eq)]
 pub enum Outcome {
-    Nothing,
-    Record,
-    Pop,
-    Swap,
-    Freeze,
+    Nothing = 0,
+    Record = 1,
+    Pop = 2,
+    Swap = 3,
+    Freeze = 4,
 }
 
 // What becomes of the entries: nothing, the entry in focus is put, or all words are zeroed.

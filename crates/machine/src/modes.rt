@@ -1,6 +1,6 @@
 // Which modes are on, and which control register speaks for a mode or a transition.
 ghost use Rattle.std.specs.Prelude.{◌≡◌};
-ghost use Rattle.machine.specs.Modes.{is_virtual, is_u, is_m, is_vu, is_vs, control_of, switch_of, on_of, governing_of};
+ghost use Rattle.machine.specs.Modes.{is_virtual, control_of, switch_of, on_of, governing_of};
 
 use crate::controls::is_set;
 use crate::{ControlBit, ControlRegister, Mode, Registers};
@@ -9,64 +9,11 @@ use crate::{ControlBit, ControlRegister, Mode, Registers};
 pub fn is_virtual(m: Mode) -> bool
     ensures { result ≡ is_virtual m }
 {
-    match m {
-        Mode::U => false,
-        Mode::S => false,
-        Mode::M => false,
-        Mode::VU => true,
-        Mode::VS => true,
-    }
-}
-
-pub fn is_u(m: Mode) -> bool
-    ensures { result ≡ is_u m }
-{
-    match m {
-        Mode::U => true,
-        Mode::S => false,
-        Mode::M => false,
-        Mode::VU => false,
-        Mode::VS => false,
-    }
-}
-
-pub fn is_m(m: Mode) -> bool
-    ensures { result ≡ is_m m }
-{
-    match m {
-        Mode::U => false,
-        Mode::S => false,
-        Mode::M => true,
-        Mode::VU => false,
-        Mode::VS => false,
-    }
-}
-
-pub fn is_vu(m: Mode) -> bool
-    ensures { result ≡ is_vu m }
-{
-    match m {
-        Mode::U => false,
-        Mode::S => false,
-        Mode::M => false,
-        Mode::VU => true,
-        Mode::VS => false,
-    }
-}
-
-pub fn is_vs(m: Mode) -> bool
-    ensures { result ≡ is_vs m }
-{
-    match m {
-        Mode::U => false,
-        Mode::S => false,
-        Mode::M => false,
-        Mode::VU => false,
-        Mode::VS => true,
-    }
+    matches!(m, Mode::VU | Mode::VS)
 }
 
 // The control register of a mode.
+#[tactic(auto, unfolding(crate::specs::Modes::control_of))]
 pub fn control(m: Mode) -> ControlRegister
     ensures { result ≡ control_of m }
 {
@@ -81,15 +28,14 @@ fn switch_bit(m: Mode) -> ControlBit
     ensures { result ≡ switch_of m }
 {
     match m {
-        Mode::U => ControlBit::U,
-        Mode::S => ControlBit::S,
+        Mode::U | Mode::VU => ControlBit::U,
+        Mode::S | Mode::VS => ControlBit::S,
         Mode::M => ControlBit::M,
-        Mode::VU => ControlBit::U,
-        Mode::VS => ControlBit::S,
     }
 }
 
 // Whether a mode is on for recording.
+#[tactic(auto, unfolding(crate::specs::Modes::on_of))]
 pub fn is_on(r: Registers, m: Mode) -> bool
     ensures { result ≡ on_of r m }
 {
@@ -97,6 +43,7 @@ pub fn is_on(r: Registers, m: Mode) -> bool
 }
 
 // The control register that governs a transition: vsctrctl between V=0 and V=1.
+#[tactic(auto, unfolding(crate::specs::Modes::governing_of))]
 pub fn governing(source: Mode, target: Mode) -> ControlRegister
     ensures { result ≡ governing_of source target }
 {

@@ -3,17 +3,16 @@ ghost use Rattle.std.specs.Prelude.{◌≡◌};
 ghost use Rattle.qualifying.specs.Changes.{possible_trap, possible_return, possible_cause};
 
 use machine::Mode;
-use machine::modes::{is_m, is_virtual};
+use machine::modes::is_virtual;
 
 pub fn possible_trap(source: Mode, target: Mode) -> bool
     ensures { result ≡ possible_trap source target }
 {
     match target {
-        Mode::U => false,
-        Mode::S => !is_m(source),
         Mode::M => true,
-        Mode::VU => false,
+        Mode::S => source != Mode::M,
         Mode::VS => is_virtual(source),
+        Mode::U | Mode::VU => false,
     }
 }
 

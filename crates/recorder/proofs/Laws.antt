@@ -14,7 +14,7 @@ use Rattle.machine.specs.Good.{good_of}
 use Rattle.machine.specs.Regs.{with_cycles}
 use Rattle.machine.specs.declared.Entry.{Entry}
 use Rattle.machine.specs.declared.RetiredWord.{RetiredWord}
-use Rattle.machine.specs.declared.Verdict.TheVariants.{BadState}
+use Rattle.machine.specs.declared.Refusal.TheVariants.{BadState}
 use Rattle.access.specs.Accesses.{access_focus}
 use Rattle.access.proofs.Laws.{laws}
 use Rattle.transfers.proofs.Laws.{stays_good}
@@ -25,7 +25,8 @@ use Rattle.machine.specs.declared.Outcome.{Outcome}
 use Rattle.machine.specs.declared.Outcome.TheVariants.{Nothing, Record, Pop, Swap, Freeze}
 use Rattle.recorder.specs.Events.{type_in, at_wrptr, focus_of}
 use Rattle.recorder.specs.Decisions.{event_of, decide_with, decide_of}
-use Rattle.recorder.specs.Entries.{entries, Entries, entry_at, applied_of, Filled}
+use Rattle.recorder.specs.Entries.{entries, entry_at, applied_of, Filled}
+use Rattle.recorder.specs.declared.Entries.{Entries}
 use Rattle.recorder.specs.Steps.{state_of, entries_in, decided_of, applied_to, outcome_to, answered_by, step_with, step_of, stepped, Whole}
 use Rattle.machine.specs.declared.Event.{Event}
 use Rattle.machine.specs.declared.Event.TheVariants.{Retired, Trap, TrapReturn, Access, Sctrclr, Host}
@@ -53,16 +54,6 @@ pub access_lt : (r : Registers) (number : ℕ) → access_focus r number < entri
 unfolding access_focus
 access_lt r number = physical_lt r.buffer.code r.buffer.wrptr _
 
--- a refusal answered
-pub refusal : (r : Registers) (d : Decision) (a : Answered) → d ≡ refused r BadState → a ≡ answered_by d → a ≡ answered_by (refused r BadState)
-refusal r d a p h = rw p at h
-
--- a decision done
-pub applied : (w v : Entries) (d : Decision) (at : ℕ) (a : Answered)
-    → v ≡ applied_of w d.effect at → a ≡ answered_by d → stepped a v ≡ applied_to w d at
-unfolding applied_to
-applied w v d at a p h = rw (h, p)
-
 -- an event from registers free of number 5: its decision done on the entry that it is about
 pub good_step : (w v : Entries) (r : Registers) (e : Event) (at : ℕ) (d : Decision) (a : Answered)
     → good_of r ≡ true → at ≡ focus_of r e → d ≡ event_of r (entry_at w at) e → stepped a v ≡ applied_to w d at
@@ -75,14 +66,22 @@ pub focused_step : (w v : Entries) (r : Registers) (e : Event) (at : ℕ) (old :
     → step_of (state_of r w) e ≡ stepped a v
 focused_step w v r e at old d a g p q u h = good_step w v r e at d a g p (rw q at u) h
 
--- an outcome done
-pub performed : (w v : Entries) (r : Registers) (e : Entry) (rasemu : Bool) (o : Outcome) (at : ℕ) (old : Entry) (d : Decision) (a : Answered)
-    → at ≡ outcome_focus r.buffer o → old ≡ entry_at w at → d ≡ done_of r old e rasemu o → stepped a v ≡ applied_to w d at
-    → stepped a v ≡ outcome_to w r e rasemu o
-unfolding outcome_to
-performed w v r e rasemu o at old d a p q f h = h ∙ rw (f, q, p)
+-- the same by what `decided` says of what it did: D holds of what may be decided
+pub decided_step : (w v : Entries) (r : Registers) (e : Event) (i : ℕ) (a : Answered) (D : Decision → Type 0)
+    → good_of r ≡ true
+    → ((d : Decision) × D d × (stepped a v ≡ applied_to w d i))
+    → i ≡ focus_of r e
+    → ((d : Decision) → D d → d ≡ event_of r (entry_at w i) e)
+    → step_of (state_of r w) e ≡ stepped a v
+decided_step w v r e i a D h g p u = focused_step w v r e i (entry_at w i) g.0 a h p refl (u g.0 g.1) g.2
 
--- a retired word there: where recording is live its outcome is done, and else nothing
+-- from registers that are not, every event is refused
+pub bad_step : (w : Entries) (r : Registers) (e : Event) (a : Answered)
+    → good_of r ≡ false → a ≡ answered_by (refused r BadState) → step_of (state_of r w) e ≡ stepped a w
+unfolding step_of decided_of decide_of applied_to applied_of
+bad_step w r e a g h = rw (g, h)
+
+-- a retired word: where recording is live its outcome is done, and else nothing
 pub live_step : (w v : Entries) (r q : Registers) (x : RetiredWord) (n : ℕ) (o : Outcome) (e : Entry) (ra : Bool) (a : Answered)
     → live_of r ≡ true → n ≡ type_in r x → o ≡ live_outcome r n → e ≡ entry_for x.pc x.target x.mispredicted n
     → ra ≡ rasemu_of r r.mode r.mode → q ≡ with_cycles r (live_cycles r.cycles ra x.cycles)
@@ -95,32 +94,11 @@ pub dead_step : (w : Entries) (r : Registers) (x : RetiredWord) (a : Answered) (
 unfolding step_with event_of focus_of retired_of retired_outcome cycles_of done_of applied_to applied_of
 dead_step w r x a d b u l f h = rw (← u, l, h, f)
 
--- an event by what is found of number 5: it is found, given, or given and found to be there
+-- an event by what is found of number 5
 pub found_step : (w v : Entries) (r : Registers) (e : Event) (b : Bool) (a : Answered)
     → b ≡ good_of r → step_with b (state_of r w) e ≡ stepped a v → step_of (state_of r w) e ≡ stepped a v
 unfolding step_of decided_of decide_of step_with
 found_step w v r e b a u h = rw (← u) h
-
-pub given_step : (w v : Entries) (r : Registers) (e : Event) (b : Bool) (a : Answered)
-    → b ≡ true → step_with true (state_of r w) e ≡ stepped a v → step_with b (state_of r w) e ≡ stepped a v
-given_step w v r e b a u h = rw u h
-
-pub refused_step : (w : Entries) (r : Registers) (e : Event) (b : Bool) (a : Answered)
-    → b ≡ false → a ≡ answered_by (refused r BadState) → step_with b (state_of r w) e ≡ stepped a w
-unfolding step_with applied_to applied_of
-refused_step w r e b a u h = rw (u, h)
-
--- from registers that are not, every event is refused
-pub bad_step : (w : Entries) (r : Registers) (e : Event) (a : Answered) (b : Bool)
-    → b ≡ good_of r → b ≡ false → a ≡ answered_by (refused r BadState) → step_of (state_of r w) e ≡ stepped a w
-unfolding step_of decided_of decide_of applied_to applied_of
-bad_step w r e a b u g h = rw (← u, g, h)
-
--- what `step` does: a step in place on the parts of the state
-pub by_value : (s : State) (e : Event) (a : Answered) (v : Entries)
-    → step_of (state_of s.registers (entries_in s)) e ≡ stepped a v
-    → ◌≡◌ {A = Stepped} (record { number = a.number; value = a.value; state = state_of a.registers v }) (step_of s e)
-by_value s e a v p = rw p
 
 -- an effect keeps the lists' lengths
 filled : (w : Entries) (f : Effect) (i : ℕ) → Filled w → Filled (applied_of w f i)

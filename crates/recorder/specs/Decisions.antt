@@ -6,7 +6,7 @@ use Rattle.machine.specs.Good.{good_of}
 use Rattle.machine.specs.declared.Registers.{Registers}
 use Rattle.machine.specs.declared.Entry.{Entry}
 use Rattle.machine.specs.declared.Decision.{Decision}
-use Rattle.machine.specs.declared.Verdict.TheVariants.{BadState}
+use Rattle.machine.specs.declared.Refusal.TheVariants.{BadState}
 use Rattle.access.specs.Accesses.{access_of, sctrclr_of, host_of}
 use Rattle.transfers.specs.Transfers.{retired_of, trap_of, return_of}
 use Rattle.recorder.specs.Events.{type_in}

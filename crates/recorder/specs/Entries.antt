@@ -3,15 +3,11 @@ use Rattle.std.specs.Prelude.{ℕ, ◌≡◌, List, length, get_or, set, replica
 use Rattle.machine.specs.declared.Entry.{Entry}
 use Rattle.machine.specs.declared.Effect.{Effect}
 use Rattle.machine.specs.declared.Effect.TheVariants.{Keep, Put, ClearAll}
+use Rattle.recorder.specs.declared.Entries.{Entries}
 
 -- how many there are
 abbrev pub entries : ℕ
 entries = 256
-
-pub record Entries : Type 0 where
-  pub ctrsource : List ℕ
-  pub ctrtarget : List ℕ
-  pub ctrdata : List ℕ
 
 abbrev pub entries_of : List ℕ → List ℕ → List ℕ → Entries
 entries_of a b c = record { ctrsource = a; ctrtarget = b; ctrdata = c }

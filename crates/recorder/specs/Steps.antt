@@ -8,18 +8,19 @@ use Rattle.machine.specs.declared.Entry.{Entry}
 use Rattle.transfers.specs.Transfers.{outcome_focus, done_of}
 use Rattle.recorder.specs.Events.{focus_of}
 use Rattle.recorder.specs.Decisions.{decide_with, decide_of}
-use Rattle.recorder.specs.Entries.{Entries, entries_of, cleared, entry_at, applied_of, Filled}
+use Rattle.recorder.specs.Entries.{cleared, entry_at, applied_of, Filled}
 use Rattle.machine.specs.declared.Event.{Event}
+use Rattle.recorder.specs.declared.Entries.{Entries}
 use Rattle.recorder.specs.declared.State.{State}
 use Rattle.recorder.specs.declared.Stepped.{Stepped}
 use Rattle.recorder.specs.declared.Answered.{Answered}
 
 -- a state of registers and entries, and its entries
 abbrev pub state_of : Registers → Entries → State
-state_of r w = record { registers = r; ctrsource = w.ctrsource; ctrtarget = w.ctrtarget; ctrdata = w.ctrdata }
+state_of r w = record { registers = r; entries = w }
 
 abbrev pub entries_in : State → Entries
-entries_in s = entries_of s.ctrsource s.ctrtarget s.ctrdata
+entries_in s = s.entries
 
 -- what an event decides
 unfoldable pub decided_of : State → Event → Decision

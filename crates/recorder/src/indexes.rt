@@ -9,6 +9,7 @@ use machine::depths::wrapped;
 use machine::{Outcome, Registers};
 
 // The entry at WRPTR.
+#[tactic(auto, using(crate::proofs::Laws::at_wrptr_lt))]
 pub(crate) fn wrptr_index(r: Registers) -> usize
     ensures within { result < entries }
     ensures focused { result ≡ at_wrptr r.buffer }
@@ -17,6 +18,7 @@ pub(crate) fn wrptr_index(r: Registers) -> usize
 }
 
 // The entry that an outcome is about.
+#[tactic(auto, using(crate::proofs::Laws::outcome_lt))]
 pub(crate) fn outcome_index(r: Registers, o: Outcome) -> usize
     ensures within { result < entries }
     ensures focused { result ≡ outcome_focus r.buffer o }
@@ -25,6 +27,7 @@ pub(crate) fn outcome_index(r: Registers, o: Outcome) -> usize
 }
 
 // The entry that an access by CSR number is about.
+#[tactic(auto, using(crate::proofs::Laws::access_lt))]
 pub(crate) fn access_index(r: Registers, number: u64) -> usize
     ensures within { result < entries }
     ensures focused { result ≡ access_focus r number }

@@ -5,19 +5,26 @@
 mod indexes;
 pub mod kinds;
 pub mod steps;
+mod words;
 
 use machine::Registers;
 
 // How many entries there are.
 pub const ENTRIES: usize = 256;
 
-// The registers, and the words of each physical entry.
+// The words of each physical entry.
 #[derive(Clone, Copy)]
-pub struct State {
-    pub registers: Registers,
+pub struct Entries {
     pub ctrsource: [u64; ENTRIES],
     pub ctrtarget: [u64; ENTRIES],
     pub ctrdata: [u64; ENTRIES],
+}
+
+// The registers and the entries.
+#[derive(Clone, Copy)]
+pub struct State {
+    pub registers: Registers,
+    pub entries: Entries,
 }
 
 // An answer, and the state after it.

@@ -1,52 +1,26 @@
 // The published cases: runs from reset, and the answer to the last event of each.
-use machine::{CsrAccess, Enables, Event, Mode, Operation, RetiredWord, ReturnTo, TrapTo};
+use crate::csrs::{
+    MCTRCTL, SCTRCTL, SCTRDEPTH, SCTRSTATUS, SIREG, SIREG2, SIREG3, SISELECT, VSCTRCTL, VSISELECT,
+    access,
+};
+use machine::{Enables, Event, Mode, Operation, RetiredWord, ReturnTo, TrapTo};
 use recorder::State;
 use recorder::steps::{reset, step};
 use std::io;
-
-const SCTRCTL: u64 = 0x14E;
-
-const SCTRSTATUS: u64 = 0x14F;
-
-const SISELECT: u64 = 0x150;
-
-const SIREG: u64 = 0x151;
-
-const SIREG2: u64 = 0x152;
-
-const SIREG3: u64 = 0x153;
-
-const SCTRDEPTH: u64 = 0x15F;
-
-const VSCTRCTL: u64 = 0x24E;
-
-const VSISELECT: u64 = 0x250;
-
-const MCTRCTL: u64 = 0x34E;
+use sweep_support::lines::put_word;
+use text::Page;
 
 // The state after an event.
 fn after(s: State, e: Event) -> State {
-    let t = step(s, e);
-    t.state
+    step(s, e).state
 }
 
 fn read(number: u64) -> Event {
-    Event::Access(CsrAccess {
-        operation: Operation::Read,
-        number,
-        operand: 0,
-    })
+    access(Operation::Read, number, 0)
 }
 
 fn write(s: State, number: u64, operand: u64) -> State {
-    after(
-        s,
-        Event::Access(CsrAccess {
-            operation: Operation::Write,
-            number,
-            operand,
-        }),
-    )
+    after(s, access(Operation::Write, number, operand))
 }
 
 fn host(s: State, mstateen0: bool, hstateen0: bool) -> State {
@@ -83,38 +57,36 @@ fn trap_to(mode: Mode) -> Event {
     })
 }
 
-fn jal() -> Event {
+fn retired(word: u32, pc: u64, target: u64) -> Event {
     Event::Retired(RetiredWord {
-        word: 0x0000_00EF,
-        pc: 0x1000,
-        target: 0x2000,
+        word,
+        pc,
+        target,
         taken: false,
         mispredicted: false,
         cycles: 0,
     })
 }
 
+fn jal() -> Event {
+    retired(0x0000_00EF, 0x1000, 0x2000)
+}
+
 fn function_return() -> Event {
-    Event::Retired(RetiredWord {
-        word: 0x0000_8067,
-        pc: 0x3000,
-        target: 0x1004,
-        taken: false,
-        mispredicted: false,
-        cycles: 0,
-    })
+    retired(0x0000_8067, 0x3000, 0x1004)
 }
 
 // The answer to an event.
 fn line(rt: &impl Print, name: &[u8], s: State, e: Event) {
     let t = step(s, e);
     let mut out = [0u8; 128];
-    let mut at = text::put(&mut out, 0, b"  ");
-    at = text::put(&mut out, at, name);
-    at = text::put(&mut out, at, b": number ");
-    at = text::put_decimal(&mut out, at, t.number);
-    at = sweep_support::lines::put_word(&mut out, at, b" value 0x", t.value);
-    console::write(&mut io::writer(rt), text::before(&out, at));
+    let mut page = Page::new(&mut out);
+    page.put(b"  ");
+    page.put(name);
+    page.put(b": number ");
+    page.put_decimal(t.number);
+    put_word(&mut page, b" value 0x", t.value);
+    console::write(&mut io::writer(rt), page.text());
 }
 
 fn enables(rt: &impl Print) {

@@ -1,18 +1,20 @@
 // What the cycle counter met: records by their CCE, what counted and what did not, and what started it
 // again.
-use crate::events::{cycles_of, is_access, is_off, is_sctrclr};
+use crate::events::{cycles_of, is_off};
+use crate::lines::put_named_row;
+use crate::steps::Step;
 use machine::good::COUNTER_LIMIT;
-use machine::{Cycles, Event, Registers};
-use std::num::wrapping_add_u64;
-use sweep_support::lines::{put_count, put_row};
-use trace::codes::flag;
+use machine::{Cycles, Event, Outcome};
+use sweep_support::lines::put_count;
+use test_support::{count, count_at};
+use text::Page;
 
 const EXPONENTS: usize = 16;
 
 // Ordinary records by their CCE, and those with CCV 0 and with CCV 1; records and swaps under RASEMU;
 // traps from a mode that is off into one that is on, recorded with a count.
-#[derive(Clone, Copy)]
-pub(crate) struct Records {
+#[derive(Default, Drop)]
+struct Records {
     cce: [u64; EXPONENTS],
     invalid: u64,
     valid: u64,
@@ -23,8 +25,8 @@ pub(crate) struct Records {
 // Retired words, traps and returns that left the counter at its top, those that RASEMU made zero it,
 // freezing traps whose own cycles counted; and cycles that did not count: of modes that are off, and of
 // others while FROZEN was set.
-#[derive(Clone, Copy)]
-pub(crate) struct Counted {
+#[derive(Default, Drop)]
+struct Counted {
     top: u64,
     zeroed: u64,
     freezing: u64,
@@ -34,45 +36,18 @@ pub(crate) struct Counted {
 
 // What started a counter again that had a count or a CCV: writes of control registers, those among them
 // that changed none, and SCTRCLR.
-#[derive(Clone, Copy)]
-pub(crate) struct Restarts {
+#[derive(Default, Drop)]
+struct Restarts {
     written: u64,
     unchanged: u64,
     cleared: u64,
 }
 
-#[derive(Clone, Copy)]
+#[derive(Default, Drop)]
 pub(crate) struct Counts {
     records: Records,
     counted: Counted,
     restarts: Restarts,
-}
-
-pub(crate) fn no_counts() -> Counts {
-    let records = Records {
-        cce: [0; EXPONENTS],
-        invalid: 0,
-        valid: 0,
-        emulated: 0,
-        from_off: 0,
-    };
-    let counted = Counted {
-        top: 0,
-        zeroed: 0,
-        freezing: 0,
-        off: 0,
-        frozen: 0,
-    };
-    let restarts = Restarts {
-        written: 0,
-        unchanged: 0,
-        cleared: 0,
-    };
-    Counts {
-        records,
-        counted,
-        restarts,
-    }
 }
 
 // No count, and CCV 0 to come.
@@ -80,138 +55,105 @@ fn is_empty(c: Cycles) -> bool {
     c.counter == 0 && !c.ccv
 }
 
-fn was_emptied(before: Cycles, after: Cycles) -> bool {
-    !is_empty(before) && is_empty(after)
+fn was_emptied(s: &Step) -> bool {
+    !is_empty(s.before.cycles) && is_empty(s.after.cycles)
 }
 
-// After an ordinary record the next one has CCV 1, and after one under RASEMU 0.
-fn with_record(s: Records, ctrdata: u64, before: Registers, ccv: bool, value: u64) -> Records {
-    let mut next = s;
-    let ordinary = value == 1 && ccv;
-    let emulated = value == 1 && !ccv || value == 3;
-    let from_off = ordinary && is_off(before) && before.cycles.counter > 0;
-    let k = (ctrdata / 0x1000_0000 % 16) as usize;
-    next.cce[k] = wrapping_add_u64(next.cce[k], flag(ordinary));
-    next.invalid = wrapping_add_u64(next.invalid, flag(ordinary && !before.cycles.ccv));
-    next.valid = wrapping_add_u64(next.valid, flag(ordinary && before.cycles.ccv));
-    next.emulated = wrapping_add_u64(next.emulated, flag(emulated));
-    next.from_off = wrapping_add_u64(next.from_off, flag(from_off));
-    next
-}
+impl Records {
+    // After an ordinary record the next one has CCV 1, and after one under RASEMU 0.
+    fn add_step(&mut self, s: &Step, ctrdata: u64) {
+        let old = s.before.cycles;
+        match s.outcome {
+            Some(Outcome::Record) if s.after.cycles.ccv => {
+                count_at(&mut self.cce, ctrdata / 0x1000_0000 % 16);
+                count(&mut self.invalid, !old.ccv);
+                count(&mut self.valid, old.ccv);
+                count(&mut self.from_off, is_off(s.before) && old.counter > 0);
+            }
+            Some(Outcome::Record | Outcome::Swap) => count(&mut self.emulated, true),
+            _ => {}
+        }
+    }
 
-fn with_count(s: Counted, cycles: u32, before: Registers, after: Cycles, value: u64) -> Counted {
-    let mut next = s;
-    let old = before.cycles;
-    let off = is_off(before);
-    let zeroed = value != 1 && was_emptied(old, after);
-    let freezing = value == 4 && after.counter > old.counter;
-    let frozen = cycles > 0 && before.buffer.frozen && !off;
-    next.top = wrapping_add_u64(next.top, flag(after.counter == COUNTER_LIMIT - 1));
-    next.zeroed = wrapping_add_u64(next.zeroed, flag(zeroed));
-    next.freezing = wrapping_add_u64(next.freezing, flag(freezing));
-    next.off = wrapping_add_u64(next.off, flag(cycles > 0 && off));
-    next.frozen = wrapping_add_u64(next.frozen, flag(frozen));
-    next
-}
-
-fn with_restart(s: Restarts, e: Event, before: Registers, after: Registers) -> Restarts {
-    let mut next = s;
-    let old = before.cycles;
-    let new = after.cycles;
-    let emptied = was_emptied(old, new);
-    let written = emptied && is_access(e);
-    let same = before.controls.mctrctl == after.controls.mctrctl
-        && before.controls.vsctrctl == after.controls.vsctrctl;
-    next.written = wrapping_add_u64(next.written, flag(written));
-    next.unchanged = wrapping_add_u64(next.unchanged, flag(written && same));
-    next.cleared = wrapping_add_u64(next.cleared, flag(emptied && is_sctrclr(e)));
-    next
-}
-
-// A transfer that was answered, with the ctrdata that is at WRPTR of the registers before it.
-fn with_transfer(
-    s: Counts,
-    e: Event,
-    ctrdata: u64,
-    before: Registers,
-    after: Cycles,
-    value: u64,
-) -> Counts {
-    let mut next = s;
-    let a = s.records;
-    let b = s.counted;
-    let records = with_record(a, ctrdata, before, after.ccv, value);
-    let counted = with_count(b, cycles_of(e), before, after, value);
-    next.records = records;
-    next.counted = counted;
-    next
-}
-
-fn with_other(s: Counts, e: Event, before: Registers, after: Registers) -> Counts {
-    let mut next = s;
-    let c = s.restarts;
-    let restarts = with_restart(c, e, before, after);
-    next.restarts = restarts;
-    next
-}
-
-// A step from good registers that was answered.
-pub(crate) fn with_answered(
-    s: Counts,
-    e: Event,
-    transfer: bool,
-    ctrdata: u64,
-    before: Registers,
-    after: Registers,
-    value: u64,
-) -> Counts {
-    let cycles = after.cycles;
-    if transfer {
-        with_transfer(s, e, ctrdata, before, cycles, value)
-    } else {
-        with_other(s, e, before, after)
+    fn put(&self, page: &mut Page) {
+        put_named_row(page, b"  records by CCE", &self.cce);
+        put_count(page, b"  records with CCV 0 ", self.invalid);
+        put_count(page, b"  records with CCV 1 ", self.valid);
+        put_count(page, b"  records and swaps under RASEMU ", self.emulated);
+        put_count(
+            page,
+            b"  records from off to on with a count ",
+            self.from_off,
+        );
     }
 }
 
-fn put_records(out: &mut [u8], at: usize, s: Records) -> usize {
-    let cce = s.cce;
-    let mut next = text::put(out, at, b"  records by CCE");
-    next = put_row(out, next, &cce);
-    next = put_count(out, next, b"  records with CCV 0 ", s.invalid);
-    next = put_count(out, next, b"  records with CCV 1 ", s.valid);
-    next = put_count(out, next, b"  records and swaps under RASEMU ", s.emulated);
-    put_count(
-        out,
-        next,
-        b"  records from off to on with a count ",
-        s.from_off,
-    )
+impl Counted {
+    fn add_step(&mut self, s: &Step) {
+        let counter = s.after.cycles.counter;
+        let recorded = s.outcome == Some(Outcome::Record);
+        let froze = s.outcome == Some(Outcome::Freeze);
+        let off = is_off(s.before);
+        let passed = cycles_of(s.event) > 0;
+        count(&mut self.top, counter == COUNTER_LIMIT - 1);
+        count(&mut self.zeroed, !recorded && was_emptied(s));
+        count(
+            &mut self.freezing,
+            froze && counter > s.before.cycles.counter,
+        );
+        count(&mut self.off, passed && off);
+        count(&mut self.frozen, passed && s.before.buffer.frozen && !off);
+    }
+
+    fn put(&self, page: &mut Page) {
+        put_count(page, b"  counters at their top ", self.top);
+        put_count(page, b"  counters zeroed by RASEMU ", self.zeroed);
+        put_count(page, b"  freezing traps counted ", self.freezing);
+        put_count(page, b"  cycles of modes that are off ", self.off);
+        put_count(page, b"  cycles while frozen ", self.frozen);
+    }
 }
 
-fn put_counted(out: &mut [u8], at: usize, s: Counted) -> usize {
-    let mut next = put_count(out, at, b"  counters at their top ", s.top);
-    next = put_count(out, next, b"  counters zeroed by RASEMU ", s.zeroed);
-    next = put_count(out, next, b"  freezing traps counted ", s.freezing);
-    next = put_count(out, next, b"  cycles of modes that are off ", s.off);
-    put_count(out, next, b"  cycles while frozen ", s.frozen)
+impl Restarts {
+    fn add_step(&mut self, s: &Step) {
+        let same = s.before.controls == s.after.controls;
+        match s.event {
+            Event::Access(_) if was_emptied(s) => {
+                count(&mut self.written, true);
+                count(&mut self.unchanged, same);
+            }
+            Event::Sctrclr => count(&mut self.cleared, was_emptied(s)),
+            _ => {}
+        }
+    }
+
+    fn put(&self, page: &mut Page) {
+        put_count(page, b"  restarts by a control write ", self.written);
+        put_count(
+            page,
+            b"  restarts by one that changes nothing ",
+            self.unchanged,
+        );
+        put_count(page, b"  restarts by SCTRCLR ", self.cleared);
+    }
 }
 
-fn put_restarts(out: &mut [u8], at: usize, s: Restarts) -> usize {
-    let mut next = put_count(out, at, b"  restarts by a control write ", s.written);
-    next = put_count(
-        out,
-        next,
-        b"  restarts by one that changes nothing ",
-        s.unchanged,
-    );
-    put_count(out, next, b"  restarts by SCTRCLR ", s.cleared)
-}
+impl Counts {
+    // A step from good registers that was answered, with the ctrdata that is after it at WRPTR of the
+    // registers before it.
+    pub(crate) fn add_step(&mut self, s: &Step, ctrdata: u64) {
+        match s.outcome {
+            Some(_) => {
+                self.records.add_step(s, ctrdata);
+                self.counted.add_step(s);
+            }
+            None => self.restarts.add_step(s),
+        }
+    }
 
-pub(crate) fn put_counts_met(out: &mut [u8], at: usize, s: Counts) -> usize {
-    let a = s.records;
-    let b = s.counted;
-    let c = s.restarts;
-    let mut next = put_records(out, at, a);
-    next = put_counted(out, next, b);
-    put_restarts(out, next, c)
+    pub(crate) fn put(&self, page: &mut Page) {
+        self.records.put(page);
+        self.counted.put(page);
+        self.restarts.put(page);
+    }
 }

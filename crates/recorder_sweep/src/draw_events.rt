@@ -1,14 +1,9 @@
-// Random events. What draws is given the last word drawn.
-use machine::{CsrAccess, Enables, Event, Mode, Operation, RetiredWord, ReturnTo, TrapTo};
-use test_support::xorshift64;
+// Random events.
+use crate::csrs::{SCTRDEPTH, SCTRSTATUS, access};
+use crate::random::pick;
+use machine::{Enables, Event, Mode, Operation, RetiredWord, ReturnTo, TrapTo};
+use test_support::Random;
 use trace::codes::{mode_of, operation_of};
-
-// An event, and the last word drawn for it.
-#[derive(Clone, Copy)]
-pub(crate) struct Drawn {
-    pub(crate) event: Event,
-    pub(crate) random: u64,
-}
 
 // Each type by each kind of word that has it, with x1, x5 and a register that is not link as rd and
 // as base; then words that are none; then table jumps and pop-returns at their bounds, one with a
@@ -148,11 +143,10 @@ pub(crate) fn address(x: u64) -> u64 {
 
 // One of eight is any word.
 fn word_of(w: u64) -> u32 {
-    let at = (w / 8 % 40) as usize;
     if w % 8 == 0 {
         (w / 8 % 0x1_0000_0000) as u32
     } else {
-        WORDS[at]
+        pick(&WORDS, w / 8)
     }
 }
 
@@ -185,30 +179,12 @@ fn retired(w: u64, pc: u64, target: u64, flags: u64, n: u64) -> Event {
 }
 
 // A retired word by itself.
-pub(crate) fn draw_word(random: u64) -> Drawn {
-    let w = xorshift64(random);
-    let pc = xorshift64(w);
-    let target = xorshift64(pc);
-    let n = xorshift64(target);
-    Drawn {
-        event: retired(w, address(pc), address(target), w / 320, n),
-        random: n,
-    }
-}
-
-fn host_trap_target(choice: u64) -> Mode {
-    match choice % 3 {
-        1 => Mode::M,
-        _ => Mode::S,
-    }
-}
-
-fn guest_trap_target(choice: u64) -> Mode {
-    match choice % 3 {
-        0 => Mode::VS,
-        1 => Mode::S,
-        _ => Mode::M,
-    }
+pub(crate) fn draw_word(random: &mut Random) -> Event {
+    let w = random.draw();
+    let pc = address(random.draw());
+    let target = address(random.draw());
+    let n = random.draw();
+    retired(w, pc, target, w / 320, n)
 }
 
 // One of four goes to any mode, the others to one that a trap can go to.
@@ -217,27 +193,9 @@ fn trap_target(mode: Mode, c: u64) -> Mode {
         return mode_of(c / 4 % 5);
     }
     match mode {
-        Mode::U => host_trap_target(c / 4),
-        Mode::S => host_trap_target(c / 4),
+        Mode::U | Mode::S => pick(&[Mode::S, Mode::M, Mode::S], c / 4),
         Mode::M => Mode::M,
-        Mode::VU => guest_trap_target(c / 4),
-        Mode::VS => guest_trap_target(c / 4),
-    }
-}
-
-fn supervisor_return_target(choice: u64) -> Mode {
-    match choice % 4 {
-        0 => Mode::U,
-        1 => Mode::S,
-        2 => Mode::VU,
-        _ => Mode::VS,
-    }
-}
-
-fn guest_return_target(choice: u64) -> Mode {
-    match choice % 2 {
-        0 => Mode::VS,
-        _ => Mode::VU,
+        Mode::VU | Mode::VS => pick(&[Mode::VS, Mode::S, Mode::M], c / 4),
     }
 }
 
@@ -247,18 +205,18 @@ fn return_target(mode: Mode, c: u64) -> Mode {
         return mode_of(c / 4 % 5);
     }
     match mode {
-        Mode::U => mode_of(c / 4 % 5),
-        Mode::S => supervisor_return_target(c / 4),
-        Mode::M => mode_of(c / 4 % 5),
-        Mode::VU => mode_of(c / 4 % 5),
-        Mode::VS => guest_return_target(c / 4),
+        Mode::S => pick(&[Mode::U, Mode::S, Mode::VU, Mode::VS], c / 4),
+        Mode::VS => pick(&[Mode::VS, Mode::VU], c / 4),
+        Mode::U | Mode::M | Mode::VU => mode_of(c / 4 % 5),
     }
 }
 
 // One of 16 is any cause.
 fn cause_of(choice: u64, z: u64) -> u64 {
-    let at = (choice % 16) as usize;
-    if at < 15 { CAUSES[at] } else { z }
+    match CAUSES.get((choice % 16) as usize) {
+        Some(cause) => *cause,
+        None => z,
+    }
 }
 
 fn trap(mode: Mode, c: u64, z: u64, epc: u64, handler: u64, n: u64) -> Event {
@@ -272,48 +230,6 @@ fn trap(mode: Mode, c: u64, z: u64, epc: u64, handler: u64, n: u64) -> Event {
     })
 }
 
-// Any word, or one that suits a control register, sctrstatus, a selection or a depth code.
-fn operand(choice: u64, z: u64) -> u64 {
-    let at = (z % 10) as usize;
-    match choice % 8 {
-        0 => z,
-        1 => (z & 0x1B07) | 7,
-        2 => z & 0xFFFF_FFFF_7FFF_FFFF,
-        3 => 0x87,
-        4 => 0x200 + z % 0x100,
-        5 => EDGES[at],
-        6 => z % 8,
-        _ => z & 0xFF_0000_001F,
-    }
-}
-
-fn access(c: u64, w: u64, z: u64) -> Event {
-    let at = (w % 40) as usize;
-    Event::Access(CsrAccess {
-        operation: operation_of(c % 4),
-        number: NUMBERS[at],
-        operand: operand(c / 4, z),
-    })
-}
-
-// A write to sctrstatus that clears FROZEN, so that what was frozen goes on, with WRPTR anywhere.
-fn thaw(z: u64) -> Event {
-    Event::Access(CsrAccess {
-        operation: Operation::Write,
-        number: 0x14F,
-        operand: z % 256,
-    })
-}
-
-// A write of any depth code.
-fn resize(z: u64) -> Event {
-    Event::Access(CsrAccess {
-        operation: Operation::Write,
-        number: 0x15F,
-        operand: z % 8,
-    })
-}
-
 fn trap_return(mode: Mode, c: u64, pc: u64, target: u64, n: u64) -> Event {
     Event::TrapReturn(ReturnTo {
         mode: return_target(mode, c),
@@ -323,6 +239,20 @@ fn trap_return(mode: Mode, c: u64, pc: u64, target: u64, n: u64) -> Event {
     })
 }
 
+// Any word, or one that suits a control register, sctrstatus, a selection or a depth code.
+fn operand(choice: u64, z: u64) -> u64 {
+    match choice % 8 {
+        0 => z,
+        1 => (z & 0x1B07) | 7,
+        2 => z & 0xFFFF_FFFF_7FFF_FFFF,
+        3 => 0x87,
+        4 => 0x200 + z % 0x100,
+        5 => pick(&EDGES, z),
+        6 => z % 8,
+        _ => z & 0xFF_0000_001F,
+    }
+}
+
 fn host(c: u64) -> Event {
     Event::Host(Enables {
         mstateen0: c % 4 != 0,
@@ -330,30 +260,24 @@ fn host(c: u64) -> Event {
     })
 }
 
-fn event_of(mode: Mode, k: u64, w: u64, x: u64, y: u64, z: u64, n: u64) -> Event {
+// An event for a machine in a mode. Among them are writes of any depth code to sctrdepth, and writes to
+// sctrstatus that clear FROZEN, so that what was frozen goes on, with WRPTR anywhere.
+pub(crate) fn draw_event(random: &mut Random, mode: Mode) -> Event {
+    let k = random.draw();
+    let w = random.draw();
+    let x = address(random.draw());
+    let y = address(random.draw());
+    let z = random.draw();
+    let n = random.draw();
     let c = k / 64;
     match k % 64 {
         0..=29 => retired(w, x, y, c, n),
         30..=37 => trap(mode, c, z, x, y, n),
         38..=45 => trap_return(mode, c, x, y, n),
-        46..=57 => access(c, w, z),
-        58 => resize(z),
-        59..=61 => thaw(z),
+        46..=57 => access(operation_of(c % 4), pick(&NUMBERS, w), operand(c / 4, z)),
+        58 => access(Operation::Write, SCTRDEPTH, z % 8),
+        59..=61 => access(Operation::Write, SCTRSTATUS, z % 256),
         62 => Event::Sctrclr,
         _ => host(c),
-    }
-}
-
-// An event for a machine in a mode.
-pub(crate) fn draw_event(random: u64, mode: Mode) -> Drawn {
-    let k = xorshift64(random);
-    let w = xorshift64(k);
-    let x = xorshift64(w);
-    let y = xorshift64(x);
-    let z = xorshift64(y);
-    let n = xorshift64(z);
-    Drawn {
-        event: event_of(mode, k, w, address(x), address(y), z, n),
-        random: n,
     }
 }

@@ -1,20 +1,12 @@
-// Random start states. What draws is given the last word drawn.
+// Random start states.
 use crate::edges::RASEMU_AND_TRETINH;
 use machine::controls::{MCTRCTL_MASK, SCTRCTL_MASK};
+use machine::depths::{depth, wrapped};
 use machine::good::COUNTER_LIMIT;
-use machine::regs::with_controls;
 use machine::{Buffer, Constants, ControlWords, Cycles, Enables, Registers, Selects};
-use recorder::ENTRIES;
-use std::num::wrapping_add_u64;
-use test_support::xorshift64;
+use recorder::{ENTRIES, Entries};
+use test_support::Random;
 use trace::codes::mode_of;
-
-// Registers, and the last word drawn for them.
-#[derive(Clone, Copy)]
-pub(crate) struct Start {
-    pub(crate) registers: Registers,
-    pub(crate) random: u64,
-}
 
 // The control bits that a state may have: with inhibits or without, with RASEMU or without.
 fn allowed(choice: u64) -> u64 {
@@ -38,7 +30,7 @@ fn good_buffer(a: u64, d: u64) -> Buffer {
     let code = a / 5 % 5;
     Buffer {
         code,
-        wrptr: machine::depths::wrapped(d, code),
+        wrptr: wrapped(d, code),
         frozen: a / 25 % 8 == 0,
     }
 }
@@ -78,111 +70,75 @@ fn from_up(least: u64, d: u64) -> u64 {
     match d % 4 {
         0 => least,
         1 => 0xFFFF_FFFF_FFFF_FFFF,
-        2 => wrapping_add_u64(least, d / 4 % 1000),
-        _ => wrapping_add_u64(least, d / 8),
+        2 => least.wrapping_add(d / 4 % 1000),
+        _ => least.wrapping_add(d / 8),
     }
 }
 
 // Five of sixteen are spoiled, in one of the five ways that number 5 is about.
-fn spoiled_buffer(b: Buffer, choice: u64, d: u64) -> Buffer {
-    let mut q = b;
+fn spoil(r: &mut Registers, choice: u64, d: u64) {
     match choice % 16 {
-        0 => q.code = from_up(5, d),
-        1 => q.wrptr = from_up(machine::depths::depth(b.code), d),
+        0 => r.buffer.code = from_up(5, d),
+        1 => r.buffer.wrptr = from_up(depth(r.buffer.code), d),
+        2 => r.controls.mctrctl |= 0x8,
+        3 => r.controls.vsctrctl |= 0x4,
+        4 => r.cycles.counter = from_up(COUNTER_LIMIT, d),
         _ => {}
     }
-    q
 }
 
-fn spoiled_controls(c: ControlWords, choice: u64) -> ControlWords {
-    let mut q = c;
-    match choice % 16 {
-        2 => q.mctrctl = c.mctrctl | 0x8,
-        3 => q.vsctrctl = c.vsctrctl | 0x4,
-        _ => {}
-    }
-    q
-}
-
-fn spoiled_cycles(c: Cycles, choice: u64, d: u64) -> Cycles {
-    let mut q = c;
-    match choice % 16 {
-        4 => q.counter = from_up(COUNTER_LIMIT, d),
-        _ => {}
-    }
-    q
-}
-
-pub(crate) fn draw_registers(random: u64) -> Start {
-    let a = xorshift64(random);
-    let b = xorshift64(a);
-    let c = xorshift64(b);
-    let d = xorshift64(c);
-    let f = xorshift64(d);
-    let g = xorshift64(f);
-    let constants = Constants {
-        zc: a / 204_800 % 2 == 1,
-    };
-    let registers = Registers {
+pub(crate) fn draw_registers(random: &mut Random) -> Registers {
+    let a = random.draw();
+    let b = random.draw();
+    let c = random.draw();
+    let d = random.draw();
+    let f = random.draw();
+    let g = random.draw();
+    let mut r = Registers {
         mode: mode_of(a % 5),
-        controls: spoiled_controls(good_controls(a, b, c), a / 12800),
-        buffer: spoiled_buffer(good_buffer(a, d), a / 12800, d),
+        controls: good_controls(a, b, c),
+        buffer: good_buffer(a, d),
         selects: selects_of(f),
         enables: enables_of(a),
-        cycles: spoiled_cycles(good_cycles(g), a / 12800, d),
-        constants,
+        cycles: good_cycles(g),
+        constants: Constants {
+            zc: a / 204_800 % 2 == 1,
+        },
     };
-    Start {
-        registers,
-        random: g,
-    }
+    spoil(&mut r, a / 12800, d);
+    r
 }
 
 // RASEMU and TRETINH different in the two control words, each way in turn.
-fn with_difference(c: ControlWords, list: u64) -> ControlWords {
+fn set_difference(c: &mut ControlWords, list: u64) {
     let both = RASEMU_AND_TRETINH;
     let chosen = (list % 2) << 7 | (list / 2 % 2) << 35;
-    ControlWords {
-        mctrctl: c.mctrctl & !both | chosen,
-        vsctrctl: c.vsctrctl & !both | (both ^ chosen),
+    c.mctrctl = c.mctrctl & !both | chosen;
+    c.vsctrctl = c.vsctrctl & !both | (both ^ chosen);
+}
+
+// In the control words that a list of the random run starts from: the first lists set each single bit of
+// the two in turn, stray or not; the next have RASEMU and TRETINH different in the two.
+pub(crate) fn set_list_bits(c: &mut ControlWords, list: u64) {
+    match list {
+        0..=63 => c.mctrctl |= 1 << list,
+        64..=127 => c.vsctrctl |= 1 << (list - 64),
+        128..=383 => set_difference(c, list),
+        _ => {}
     }
 }
 
-// The first lists set each single bit of the two control words in turn, stray or not; the next have
-// RASEMU and TRETINH different in the two.
-fn with_bits(c: ControlWords, list: u64) -> ControlWords {
-    let mut q = c;
-    if list < 64 {
-        q.mctrctl = c.mctrctl | (1 << list);
-    } else if list < 128 {
-        q.vsctrctl = c.vsctrctl | (1 << (list - 64));
-    } else if list < 384 {
-        q = with_difference(c, list);
-    }
-    q
-}
-
-// The registers that a list of the random run starts from.
-pub(crate) fn with_list_bits(r: Registers, list: u64) -> Registers {
-    let c = r.controls;
-    with_controls(r, with_bits(c, list))
-}
-
-// Fills the entries, undefined bits too, and answers the last word drawn.
-pub(crate) fn draw_entries(
-    ctrsource: &mut [u64; ENTRIES],
-    ctrtarget: &mut [u64; ENTRIES],
-    ctrdata: &mut [u64; ENTRIES],
-    random: u64,
-) -> u64 {
-    let mut x = random;
+// Entries with undefined bits too.
+pub(crate) fn draw_entries(random: &mut Random) -> Entries {
+    let mut entries = Entries {
+        ctrsource: [0; ENTRIES],
+        ctrtarget: [0; ENTRIES],
+        ctrdata: [0; ENTRIES],
+    };
     for i in 0..ENTRIES {
-        x = xorshift64(x);
-        ctrsource[i] = x;
-        x = xorshift64(x);
-        ctrtarget[i] = x;
-        x = xorshift64(x);
-        ctrdata[i] = x;
+        entries.ctrsource[i] = random.draw();
+        entries.ctrtarget[i] = random.draw();
+        entries.ctrdata[i] = random.draw();
     }
-    x
+    entries
 }

@@ -1,92 +1,77 @@
 // How often each edge between V=0 and V=1 was met where it matters which control register gives its
 // RASEMU and TRETINH.
+use crate::lines::put_named_row;
+use crate::steps::Step;
 use machine::modes::is_on;
 use machine::{Mode, Registers};
-use sweep_support::lines::put_row;
-use trace::codes::flag;
+use test_support::count_at;
+use text::Page;
 
 const EDGES: usize = 8;
 
-// 16 of each edge.
-pub(crate) const CELLS: usize = 128;
+// By two bits and two switches.
+const CELLS: usize = 16;
+
+// Where each edge comes from and goes to, and its name, in the order in which they are printed.
+const NAMES: [(Mode, Mode, &[u8]); EDGES] = [
+    (Mode::S, Mode::VS, b"    S to VS"),
+    (Mode::S, Mode::VU, b"    S to VU"),
+    (Mode::M, Mode::VS, b"    M to VS"),
+    (Mode::M, Mode::VU, b"    M to VU"),
+    (Mode::VS, Mode::S, b"    VS to S"),
+    (Mode::VS, Mode::M, b"    VS to M"),
+    (Mode::VU, Mode::S, b"    VU to S"),
+    (Mode::VU, Mode::M, b"    VU to M"),
+];
 
 pub(crate) const RASEMU_AND_TRETINH: u64 = 0x8_0000_0080;
 
-// Where a return into a guest goes; 8 if it goes elsewhere.
-fn guest(target: Mode) -> u64 {
-    match target {
-        Mode::VS => 0,
-        Mode::VU => 1,
-        _ => 8,
-    }
+#[derive(Default, Drop)]
+pub(crate) struct Edges {
+    counts: [[u64; CELLS]; EDGES],
 }
 
-// Where a trap out of a guest goes; 8 if it goes elsewhere.
-fn host(target: Mode) -> u64 {
-    match target {
-        Mode::S => 0,
-        Mode::M => 1,
-        _ => 8,
-    }
+// The place of an edge, if a transition is one.
+fn edge(source: Mode, target: Mode) -> Option<usize> {
+    NAMES
+        .iter()
+        .position(|(from, to, _)| *from == source && *to == target)
 }
 
-// An edge's number, in the order in which they are printed; 8 or more for any other transition.
-fn edge(source: Mode, target: Mode) -> u64 {
-    match source {
-        Mode::U => 8,
-        Mode::S => guest(target),
-        Mode::M => 2 | guest(target),
-        Mode::VS => 4 | host(target),
-        Mode::VU => 6 | host(target),
-    }
-}
-
-// The cell of an edge, by RASEMU and TRETINH of vsctrctl and by whether each mode is on; CELLS or more
-// if it is none, if one of the two bits is alike in both registers, or if FROZEN is set.
-pub(crate) fn cell(before: Registers, after: Mode) -> u64 {
-    let source = before.mode;
+// The cell of an edge, by RASEMU and TRETINH of vsctrctl and by whether each mode is on; none if one of
+// the two bits is alike in both registers, or if FROZEN is set.
+fn cell(before: Registers, after: Mode) -> Option<u64> {
     let v = before.controls.vsctrctl;
     let differing = (before.controls.mctrctl ^ v) & RASEMU_AND_TRETINH;
-    if differing == RASEMU_AND_TRETINH && !before.buffer.frozen {
-        edge(source, after) << 4
-            | (v >> 7 & 1) << 3
+    if differing != RASEMU_AND_TRETINH || before.buffer.frozen {
+        return None;
+    }
+    Some(
+        (v >> 7 & 1) << 3
             | (v >> 35 & 1) << 2
-            | flag(is_on(before, source)) << 1
-            | flag(is_on(before, after))
-    } else {
-        128
-    }
+            | u64::from(is_on(before, before.mode)) << 1
+            | u64::from(is_on(before, after)),
+    )
 }
 
-// The name of an edge.
-fn put_name(out: &mut [u8], at: usize, edge: usize) -> usize {
-    match edge {
-        0 => text::put(out, at, b"    S to VS"),
-        1 => text::put(out, at, b"    S to VU"),
-        2 => text::put(out, at, b"    M to VS"),
-        3 => text::put(out, at, b"    M to VU"),
-        4 => text::put(out, at, b"    VS to S"),
-        5 => text::put(out, at, b"    VS to M"),
-        6 => text::put(out, at, b"    VU to S"),
-        _ => text::put(out, at, b"    VU to M"),
+impl Edges {
+    pub(crate) fn add_step(&mut self, s: &Step) {
+        let after = s.after.mode;
+        if let Some(k) = cell(s.before, after)
+            && let Some(i) = edge(s.before.mode, after)
+            && let Some(counts) = self.counts.get_mut(i)
+        {
+            count_at(counts, k);
+        }
     }
-}
 
-// A line for each edge.
-fn put_cells(out: &mut [u8], at: usize, edges: [u64; CELLS]) -> usize {
-    let mut next = at;
-    for k in 0..EDGES {
-        next = put_name(out, next, k);
-        next = put_row(out, next, &edges[16 * k..16 * k + 16]);
+    // A line for each edge.
+    pub(crate) fn put(&self, page: &mut Page) {
+        page.put(
+            b"  edges where RASEMU and TRETINH differ, by those of vsctrctl and by the switches\n",
+        );
+        for ((_, _, name), counts) in NAMES.iter().zip(self.counts.iter()) {
+            put_named_row(page, name, counts);
+        }
     }
-    next
-}
-
-pub(crate) fn put_edges(out: &mut [u8], at: usize, edges: [u64; CELLS]) -> usize {
-    let next = text::put(
-        out,
-        at,
-        b"  edges where RASEMU and TRETINH differ, by those of vsctrctl and by the switches\n",
-    );
-    put_cells(out, next, edges)
 }

@@ -4,14 +4,18 @@
 
 mod bench_lines;
 mod counts;
+mod csrs;
 mod depths;
 mod draw_events;
 mod draw_states;
 mod edges;
 mod events;
+mod lines;
 mod mispredictions;
 mod pairs;
+mod random;
 mod random_run;
+mod steps;
 mod switch;
 
 fn main(rt: HostRuntime) {

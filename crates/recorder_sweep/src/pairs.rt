@@ -3,25 +3,21 @@
 // end states have to be equal. Run A is in place, run B by value.
 use crate::draw_events::{address, cycles, draw_event, draw_word};
 use crate::draw_states::{draw_entries, draw_registers};
-use crate::events::{
-    cycles_of, differing_addresses, is_mispredicted, is_off, is_retired, with_addresses,
-};
+use crate::events::{Others, addresses_of, cycles_of, is_mispredicted, is_off, with_others};
 use machine::good::is_good;
 use machine::{Event, Registers};
+use recorder::State;
 use recorder::steps::{step, step_in_place};
-use recorder::{ENTRIES, State};
 use std::io;
-use std::num::wrapping_add_u64;
 use sweep_support::digests::digest_answer;
 use sweep_support::lines::{put_count, put_word};
 use sweep_support::states::{digest_state, digest_value};
-use test_support::{SEED, xorshift64};
-use trace::codes::flag;
+use test_support::{Random, count};
+use text::Page;
 
-// What was seen, and the last word drawn.
-#[derive(Clone, Copy)]
+// What was seen.
+#[derive(Default, Drop)]
 struct Tally {
-    random: u64,
     bad_starts: u64,
     switched_on: u64,
     unequal_lengths: u64,
@@ -38,30 +34,22 @@ struct Tally {
     end_states: u64,
 }
 
-// A pair under way: A but for its entries, B, how many words each retired alone, and how many events
-// are left.
-#[derive(Clone, Copy)]
+// A pair under way: A and B, how many words each retired alone, how many events both have, and how many
+// of those are left.
+#[derive(Drop)]
 struct Pair {
-    a: Registers,
+    a: State,
     b: State,
     alone_in_a: u64,
     alone_in_b: u64,
+    turns: u64,
     left: u64,
-    tally: Tally,
 }
 
-// A after words of its own, and the last word drawn for them.
-#[derive(Clone, Copy)]
-struct InPlace {
-    registers: Registers,
-    random: u64,
-}
-
-// The same of B.
-#[derive(Clone, Copy)]
-struct ByValue {
-    state: State,
-    random: u64,
+#[derive(Clone, Copy, PartialEq, Eq)]
+struct Answer {
+    number: u64,
+    value: u64,
 }
 
 const PAIRS: u64 = 4000;
@@ -80,276 +68,183 @@ fn words_alone(r: Registers, n: u64) -> u64 {
     if is_off(r) { n % 4 } else { 0 }
 }
 
-// Words that A retires alone.
-fn retire_in_place(
-    ctrsource: &mut [u64; ENTRIES],
-    ctrtarget: &mut [u64; ENTRIES],
-    ctrdata: &mut [u64; ENTRIES],
-    r: Registers,
-    random: u64,
+// A step of A.
+fn step_a(s: &mut State, e: Event) -> Answer {
+    let a = step_in_place(&mut s.entries, s.registers, e);
+    s.registers = a.registers;
+    Answer {
+        number: a.number,
+        value: a.value,
+    }
+}
+
+// A step of B.
+fn step_b(s: &mut State, e: Event) -> Answer {
+    let b = step(*s, e);
+    *s = b.state;
+    Answer {
+        number: b.number,
+        value: b.value,
+    }
+}
+
+// Words that a run retires alone.
+fn retire<F: Fn(&mut State, Event) -> Answer>(
+    s: &mut State,
     words: u64,
-) -> InPlace {
-    let mut registers = r;
-    let mut last = random;
+    random: &mut Random,
+    step: F,
+)
+    requires { F.IsAlwaysCallable step }
+{
     for _ in 0..words {
-        let drawn = draw_word(last);
-        last = drawn.random;
-        let e = drawn.event;
-        let a = step_in_place(ctrsource, ctrtarget, ctrdata, registers, e);
-        registers = a.registers;
-    }
-    InPlace {
-        registers,
-        random: last,
+        step(s, draw_word(random));
     }
 }
 
-// Words that B retires alone.
-fn retire_by_value(s: State, random: u64, words: u64) -> ByValue {
-    let mut state = s;
-    let mut last = random;
-    for _ in 0..words {
-        let drawn = draw_word(last);
-        last = drawn.random;
-        let e = drawn.event;
-        let b = step(state, e);
-        state = b.state;
+impl Pair {
+    // What each run retires alone, A first.
+    fn run_alone(&mut self, random: &mut Random) {
+        let n = random.draw();
+        let in_a = words_alone(self.a.registers, n);
+        let in_b = words_alone(self.b.registers, n / 4);
+        retire(&mut self.a, in_a, random, step_a);
+        retire(&mut self.b, in_b, random, step_b);
+        self.alone_in_a = self.alone_in_a.wrapping_add(in_a);
+        self.alone_in_b = self.alone_in_b.wrapping_add(in_b);
     }
-    ByValue {
-        state,
-        random: last,
-    }
-}
 
-// What each run retires alone, A first.
-fn run_alone(
-    ctrsource: &mut [u64; ENTRIES],
-    ctrtarget: &mut [u64; ENTRIES],
-    ctrdata: &mut [u64; ENTRIES],
-    p: Pair,
-) -> Pair {
-    let n = xorshift64(p.tally.random);
-    let r = p.a;
-    let s = p.b;
-    let q = s.registers;
-    let in_a = words_alone(r, n);
-    let in_b = words_alone(q, n / 4);
-    let a = retire_in_place(ctrsource, ctrtarget, ctrdata, r, n, in_a);
-    let b = retire_by_value(s, a.random, in_b);
-    let mut tally = p.tally;
-    tally.random = b.random;
-    let registers = a.registers;
-    let state = b.state;
-    Pair {
-        a: registers,
-        b: state,
-        alone_in_a: wrapping_add_u64(p.alone_in_a, in_a),
-        alone_in_b: wrapping_add_u64(p.alone_in_b, in_b),
-        left: p.left,
-        tally,
+    // One event for both runs.
+    fn run_shared(&mut self, t: &mut Tally, random: &mut Random) {
+        let r = self.a.registers;
+        let q = self.b.registers;
+        let e = draw_event(random, r.mode);
+        let source = address(random.draw());
+        let target = address(random.draw());
+        let n = random.draw();
+        let others = Others {
+            source,
+            target,
+            cycles: cycles(n),
+            mispredicted: n / 0x10_0000_0000 % 2 == 1,
+        };
+        let other = with_others(e, r, q, others);
+        let a = step_a(&mut self.a, e);
+        let b = step_b(&mut self.b, other);
+        t.add_differences(e, other);
+        let word = matches!(e, Event::Retired(_));
+        let struck_in_a = word && is_off(r);
+        let struck_in_b = word && is_off(q);
+        count(&mut t.words_struck, struck_in_a);
+        count(&mut t.words_struck, struck_in_b);
+        if !struck_in_a && !struck_in_b {
+            count(&mut self.left, true);
+            t.add_left(a, b);
+        }
+        // An event that is left in one run only makes the answers left unequal.
+        count(&mut t.answers_unequal, struck_in_a != struck_in_b);
     }
-}
 
-// In how many of the two runs an event is struck.
-fn times_struck(e: Event, a: Registers, b: Registers) -> u64 {
-    if is_retired(e) {
-        wrapping_add_u64(flag(is_off(a)), flag(is_off(b)))
-    } else {
-        0
+    // The events that both runs have, and what each retires alone before each of them and at the end.
+    fn run(&mut self, t: &mut Tally, random: &mut Random) {
+        for _ in 0..self.turns {
+            self.run_alone(random);
+            self.run_shared(t, random);
+        }
+        self.run_alone(random);
     }
 }
 
-// An event with A's answer, and whether B's is the same. If it is left in one run only, the answers
-// left are unequal.
-fn tallied(t: Tally, struck: u64, same: bool, number: u64, value: u64) -> Tally {
-    let mut next = t;
-    next.words_struck = wrapping_add_u64(next.words_struck, struck);
-    if struck == 0 {
-        next.events_left = wrapping_add_u64(next.events_left, 1);
-        next.answers_unequal = wrapping_add_u64(next.answers_unequal, flag(!same));
-        next.answers = digest_answer(next.answers, number, value);
+impl Tally {
+    // How the events that the two runs get differ.
+    fn add_differences(&mut self, e: Event, other: Event) {
+        if let (Some(x), Some(y)) = (addresses_of(e), addresses_of(other)) {
+            count(&mut self.addresses_differed, x.source != y.source);
+            count(&mut self.addresses_differed, x.target != y.target);
+        }
+        count(&mut self.cycles_differed, cycles_of(e) != cycles_of(other));
+        count(
+            &mut self.flags_differed,
+            is_mispredicted(e) != is_mispredicted(other),
+        );
     }
-    if struck == 1 {
-        next.answers_unequal = wrapping_add_u64(next.answers_unequal, 1);
+
+    // An event that is left in both runs, with its answers.
+    fn add_left(&mut self, a: Answer, b: Answer) {
+        count(&mut self.events_left, true);
+        count(&mut self.answers_unequal, a != b);
+        self.answers = digest_answer(self.answers, a.number, a.value);
     }
-    next
-}
 
-// One event for both runs.
-fn run_shared(
-    ctrsource: &mut [u64; ENTRIES],
-    ctrtarget: &mut [u64; ENTRIES],
-    ctrdata: &mut [u64; ENTRIES],
-    p: Pair,
-) -> Pair {
-    let r = p.a;
-    let s = p.b;
-    let q = s.registers;
-    let m = r.mode;
-    let drawn = draw_event(p.tally.random, m);
-    let e = drawn.event;
-    let source = xorshift64(drawn.random);
-    let target = xorshift64(source);
-    let n = xorshift64(target);
-    let mispredicted = n / 0x10_0000_0000 % 2 == 1;
-    let other = with_addresses(
-        e,
-        r,
-        q,
-        address(source),
-        address(target),
-        cycles(n),
-        mispredicted,
-    );
-    let a = step_in_place(ctrsource, ctrtarget, ctrdata, r, e);
-    let b = step(s, other);
-    let same = a.number == b.number && a.value == b.value;
-    let struck = times_struck(e, r, q);
-    let mut tally = tallied(p.tally, struck, same, a.number, a.value);
-    tally.random = n;
-    let differed = differing_addresses(e, other);
-    tally.addresses_differed = wrapping_add_u64(tally.addresses_differed, differed);
-    let other_cycles = flag(cycles_of(e) != cycles_of(other));
-    tally.cycles_differed = wrapping_add_u64(tally.cycles_differed, other_cycles);
-    let other_flag = flag(is_mispredicted(e) != is_mispredicted(other));
-    tally.flags_differed = wrapping_add_u64(tally.flags_differed, other_flag);
-    let registers = a.registers;
-    let state = b.state;
-    Pair {
-        a: registers,
-        b: state,
-        alone_in_a: p.alone_in_a,
-        alone_in_b: p.alone_in_b,
-        left: wrapping_add_u64(p.left, flag(struck == 0)),
-        tally,
+    fn add_start(&mut self, r: Registers) {
+        count(&mut self.bad_starts, !is_good(r));
+        count(&mut self.switched_on, r.constants.zc);
     }
-}
 
-// A list, by how many words it has alone, how many events both have, and how many are left.
-fn with_list(t: Tally, alone: u64, turns: u64, left: u64) -> Tally {
-    let mut next = t;
-    if alone == 0 && turns == 0 {
-        next.empty_lists = wrapping_add_u64(next.empty_lists, 1);
-    } else if left == 0 {
-        next.struck_to_nothing = wrapping_add_u64(next.struck_to_nothing, 1);
+    // A list of a pair, by how many words it has alone.
+    fn add_list(&mut self, p: &Pair, alone: u64) {
+        let empty = alone == 0 && p.turns == 0;
+        count(&mut self.empty_lists, empty);
+        count(&mut self.struck_to_nothing, !empty && p.left == 0);
+        self.words_struck = self.words_struck.wrapping_add(alone);
     }
-    next
-}
 
-// The end of a pair.
-fn ended(
-    ctrsource: &[u64; ENTRIES],
-    ctrtarget: &[u64; ENTRIES],
-    ctrdata: &[u64; ENTRIES],
-    p: Pair,
-    turns: u64,
-) -> Tally {
-    let r = p.a;
-    let s = p.b;
-    let with_a = with_list(p.tally, p.alone_in_a, turns, p.left);
-    let mut t = with_list(with_a, p.alone_in_b, turns, p.left);
-    t.unequal_lengths = wrapping_add_u64(t.unequal_lengths, flag(p.alone_in_a != p.alone_in_b));
-    let struck = wrapping_add_u64(p.alone_in_a, p.alone_in_b);
-    t.words_struck = wrapping_add_u64(t.words_struck, struck);
-    let a = digest_state(t.end_states, r, ctrsource, ctrtarget, ctrdata);
-    let b = digest_value(t.end_states, s);
-    t.end_states_unequal = wrapping_add_u64(t.end_states_unequal, flag(a != b));
-    t.end_states = a;
-    t
-}
-
-fn started(t: Tally, random: u64, good: bool, zc: bool) -> Tally {
-    let mut next = t;
-    next.random = random;
-    next.bad_starts = wrapping_add_u64(next.bad_starts, flag(!good));
-    next.switched_on = wrapping_add_u64(next.switched_on, flag(zc));
-    next
-}
-
-// The events that both runs have, and what each retires alone before each of them and at the end.
-fn run_turns(
-    ctrsource: &mut [u64; ENTRIES],
-    ctrtarget: &mut [u64; ENTRIES],
-    ctrdata: &mut [u64; ENTRIES],
-    p: Pair,
-    turns: u64,
-) -> Pair {
-    let mut q = p;
-    for _ in 0..turns {
-        q = run_alone(ctrsource, ctrtarget, ctrdata, q);
-        q = run_shared(ctrsource, ctrtarget, ctrdata, q);
+    fn add_end(&mut self, p: &Pair) {
+        self.add_list(p, p.alone_in_a);
+        self.add_list(p, p.alone_in_b);
+        count(&mut self.unequal_lengths, p.alone_in_a != p.alone_in_b);
+        let a = digest_state(self.end_states, p.a.registers, &p.a.entries);
+        let b = digest_value(self.end_states, p.b);
+        count(&mut self.end_states_unequal, a != b);
+        self.end_states = a;
     }
-    run_alone(ctrsource, ctrtarget, ctrdata, q)
-}
 
-fn run_pair(t: Tally) -> Tally {
-    let mut ctrsource = [0; ENTRIES];
-    let mut ctrtarget = [0; ENTRIES];
-    let mut ctrdata = [0; ENTRIES];
-    let start = draw_registers(t.random);
-    let filled = draw_entries(&mut ctrsource, &mut ctrtarget, &mut ctrdata, start.random);
-    let choice = xorshift64(filled);
-    let registers = start.registers;
-    let p = Pair {
-        a: registers,
-        b: State {
-            registers,
-            ctrsource,
-            ctrtarget,
-            ctrdata,
-        },
-        alone_in_a: 0,
-        alone_in_b: 0,
-        left: 0,
-        tally: started(t, choice, is_good(registers), registers.constants.zc),
-    };
-    let turns = turns_of(choice);
-    let q = run_turns(&mut ctrsource, &mut ctrtarget, &mut ctrdata, p, turns);
-    ended(&ctrsource, &ctrtarget, &ctrdata, q, turns)
-}
-
-fn run_pairs() -> Tally {
-    let mut t = Tally {
-        random: SEED,
-        bad_starts: 0,
-        switched_on: 0,
-        unequal_lengths: 0,
-        empty_lists: 0,
-        struck_to_nothing: 0,
-        words_struck: 0,
-        addresses_differed: 0,
-        cycles_differed: 0,
-        flags_differed: 0,
-        events_left: 0,
-        answers_unequal: 0,
-        end_states_unequal: 0,
-        answers: 0,
-        end_states: 0,
-    };
-    for _ in 0..PAIRS {
-        t = run_pair(t);
+    fn run_pair(&mut self, random: &mut Random) {
+        let start = State {
+            registers: draw_registers(random),
+            entries: draw_entries(random),
+        };
+        self.add_start(start.registers);
+        let mut p = Pair {
+            a: start,
+            b: start,
+            alone_in_a: 0,
+            alone_in_b: 0,
+            turns: turns_of(random.draw()),
+            left: 0,
+        };
+        p.run(self, random);
+        self.add_end(&p);
     }
-    t
+
+    fn put(&self, page: &mut Page) {
+        page.put(b"pairs\n");
+        put_count(page, b"  pairs ", PAIRS);
+        put_count(page, b"  bad starts ", self.bad_starts);
+        put_count(page, b"  switched on ", self.switched_on);
+        put_count(page, b"  unequal lengths ", self.unequal_lengths);
+        put_count(page, b"  empty lists ", self.empty_lists);
+        put_count(page, b"  struck to nothing ", self.struck_to_nothing);
+        put_count(page, b"  words struck ", self.words_struck);
+        put_count(page, b"  addresses differed ", self.addresses_differed);
+        put_count(page, b"  cycles differed ", self.cycles_differed);
+        put_count(page, b"  flags differed ", self.flags_differed);
+        put_count(page, b"  events left ", self.events_left);
+        put_count(page, b"  answers unequal ", self.answers_unequal);
+        put_count(page, b"  end states unequal ", self.end_states_unequal);
+        put_word(page, b"  answers 0x", self.answers);
+        put_word(page, b"  end states 0x", self.end_states);
+    }
 }
 
 pub(crate) fn report(rt: &impl Print) {
-    let t = run_pairs();
+    let mut t = Tally::default();
+    let mut random = Random::new();
+    for _ in 0..PAIRS {
+        t.run_pair(&mut random);
+    }
     let mut out = [0u8; 1024];
-    let mut at = text::put(&mut out, 0, b"pairs\n");
-    at = put_count(&mut out, at, b"  pairs ", PAIRS);
-    at = put_count(&mut out, at, b"  bad starts ", t.bad_starts);
-    at = put_count(&mut out, at, b"  switched on ", t.switched_on);
-    at = put_count(&mut out, at, b"  unequal lengths ", t.unequal_lengths);
-    at = put_count(&mut out, at, b"  empty lists ", t.empty_lists);
-    at = put_count(&mut out, at, b"  struck to nothing ", t.struck_to_nothing);
-    at = put_count(&mut out, at, b"  words struck ", t.words_struck);
-    at = put_count(&mut out, at, b"  addresses differed ", t.addresses_differed);
-    at = put_count(&mut out, at, b"  cycles differed ", t.cycles_differed);
-    at = put_count(&mut out, at, b"  flags differed ", t.flags_differed);
-    at = put_count(&mut out, at, b"  events left ", t.events_left);
-    at = put_count(&mut out, at, b"  answers unequal ", t.answers_unequal);
-    at = put_count(&mut out, at, b"  end states unequal ", t.end_states_unequal);
-    at = put_word(&mut out, at, b"  answers 0x", t.answers);
-    at = put_word(&mut out, at, b"  end states 0x", t.end_states);
-    console::write(&mut io::writer(rt), text::before(&out, at));
+    let mut page = Page::new(&mut out);
+    t.put(&mut page);
+    console::write(&mut io::writer(rt), page.text());
 }

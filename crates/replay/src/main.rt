@@ -4,109 +4,99 @@
 #![tactic(auto)]
 
 mod answers;
-mod input;
 mod output;
 mod problems;
 mod report;
 mod runs;
 
-use console::Complain;
+use console::{BLOCK, Complain, LONGEST_NAME};
+use output::Output;
+use problems::Refusal;
 use std::env::Env;
 use std::fs::Files;
 use std::io;
-use text::is_same;
+use std::ops::Range;
 
-// What an argument before the traces is.
-#[derive(Drop)]
+// A flag before the traces.
 enum Flag {
-    None,
     Answers,
     State,
     Zc,
     Dump,
     Help,
-    Unknown,
 }
 
-// What the flags ask for, the number of the first argument after them, and whether there are several
-// traces.
-#[derive(Clone, Copy)]
+impl Flag {
+    fn of(argument: &[u8]) -> Option<Flag> {
+        match argument {
+            b"--answers" => Some(Flag::Answers),
+            b"--state" => Some(Flag::State),
+            b"--zc" => Some(Flag::Zc),
+            b"--dump" => Some(Flag::Dump),
+            b"--help" => Some(Flag::Help),
+            _ => None,
+        }
+    }
+}
+
+// What the flags ask for.
+#[derive(Clone, Copy, Default)]
 struct Options {
     answers: bool,
     state: bool,
     zc: bool,
     dump: bool,
-    help: bool,
-    is_known: bool,
-    first: usize,
-    several: bool,
 }
 
-fn begins_with_dash(argument: &[u8]) -> bool {
-    argument.len() > 0 && argument[0] == b'-'
-}
-
-fn flag_of(argument: &[u8]) -> Flag {
-    if !begins_with_dash(argument) {
-        Flag::None
-    } else if is_same(argument, b"--answers") {
-        Flag::Answers
-    } else if is_same(argument, b"--state") {
-        Flag::State
-    } else if is_same(argument, b"--zc") {
-        Flag::Zc
-    } else if is_same(argument, b"--dump") {
-        Flag::Dump
-    } else if is_same(argument, b"--help") {
-        Flag::Help
-    } else {
-        Flag::Unknown
-    }
-}
-
-// The options with argument i read. One that is no flag ends them.
-fn with_argument(rt: &impl Complain, o: Options, i: usize, argument: &[u8]) -> Options {
-    let mut next = o;
-    match flag_of(argument) {
-        Flag::None => next.first = i,
-        Flag::Answers => next.answers = true,
-        Flag::State => next.state = true,
-        Flag::Zc => next.zc = true,
-        Flag::Dump => next.dump = true,
-        Flag::Help => next.help = true,
-        Flag::Unknown => {
-            problems::unknown_flag(rt, argument);
-            next.is_known = false;
+impl Options {
+    // A dump is of one trace, and nothing is beside it.
+    fn check(self, several: bool) -> Result<(), Refusal> {
+        if self.dump && (self.answers || self.state) {
+            Err(Refusal::DumpAndText)
+        } else if self.dump && several {
+            Err(Refusal::DumpOfSeveral)
+        } else {
+            Ok(())
         }
     }
-    next
 }
 
-// One that is too long is read as an empty one.
-fn read_argument(rt: &(impl Env + Complain), o: Options, i: usize) -> Options {
-    let mut buffer = console::buffer();
-    let length = console::arg(rt, i, &mut buffer).unwrap_or(0);
-    with_argument(rt, o, i, text::before(&buffer, length))
+// What the arguments ask for: words on how the program is used, or traces, which are arguments by number.
+#[derive(Drop)]
+enum Request {
+    Usage,
+    Replay(Options, Range<usize>),
 }
 
-fn read_options(rt: &(impl Env + Complain), count: usize) -> Options {
-    let mut o = Options {
-        answers: false,
-        state: false,
-        zc: false,
-        dump: false,
-        help: false,
-        is_known: true,
-        first: count,
-        several: false,
-    };
-    let mut i = 1;
-    while i < count && o.first == count && o.is_known && !o.help {
-        o = read_argument(rt, o, i);
-        i += 1;
+// Argument i. One that is too long is read as an empty one.
+fn read_argument<'a>(rt: &impl Env, i: usize, buffer: &'a mut [u8]) -> &'a [u8] {
+    let length = console::arg(rt, i, buffer).unwrap_or(0);
+    text::before(buffer, length)
+}
+
+// The first argument that begins with no dash ends the flags.
+fn read_request(rt: &impl Env, count: usize) -> Result<Request, Refusal> {
+    let mut options = Options::default();
+    for i in 1..count {
+        let mut buffer = [0u8; LONGEST_NAME];
+        let argument = read_argument(rt, i, &mut buffer);
+        if !argument.starts_with(b"-") {
+            options.check(count - i > 1)?;
+            return Ok(Request::Replay(options, i..count));
+        }
+        match Flag::of(argument).ok_or(Refusal::UnknownFlag(i))? {
+            Flag::Answers => options.answers = true,
+            Flag::State => options.state = true,
+            Flag::Zc => options.zc = true,
+            Flag::Dump => options.dump = true,
+            Flag::Help => return Ok(Request::Usage),
+        }
     }
-    o.several = o.first < count && count - o.first > 1;
-    o
+    if count < 2 {
+        Ok(Request::Usage)
+    } else {
+        Err(Refusal::NoTrace)
+    }
 }
 
 fn print_usage(rt: &impl Print) {
@@ -116,56 +106,37 @@ fn print_usage(rt: &impl Print) {
     );
 }
 
-// Argument i as a trace.
-fn run_argument(
-    rt: &(impl Files + Env + Print + Complain),
-    out: &mut [u8],
-    at: usize,
+// Argument i as a trace, with its name if it is one of several.
+fn run_argument<R: Files + Env + Print + Complain>(
+    out: &mut Output<'_, R>,
     i: usize,
     o: Options,
-) -> usize {
-    let mut buffer = console::buffer();
-    match console::arg(rt, i, &mut buffer) {
-        Ok(length) => runs::replay(rt, out, at, text::before(&buffer, length), o),
+    several: bool,
+) {
+    let mut buffer = [0u8; LONGEST_NAME];
+    match console::arg(out.rt, i, &mut buffer) {
+        Ok(length) => runs::replay(out, text::before(&buffer, length), o, several),
         Err(error) => {
-            console::fail(&mut rt.complaints(), b"replay: a trace's name", error);
-            at
+            console::fail(&mut out.rt.complaints(), b"replay: a trace's name", error);
         }
     }
 }
 
-fn run_traces(rt: &(impl Files + Env + Print + Complain), count: usize, o: Options) {
-    let mut out = console::large_buffer();
-    let mut at = 0;
-    let mut i = o.first;
-    while i < count {
-        at = run_argument(rt, &mut out, at, i, o);
-        i += 1;
+fn run_traces<R: Files + Env + Print + Complain>(rt: &R, traces: Range<usize>, o: Options) {
+    let mut buffer = [0u8; BLOCK];
+    let mut out = Output::new(rt, &mut buffer);
+    let several = traces.len() > 1;
+    for i in traces {
+        run_argument(&mut out, i, o, several);
     }
-    output::flush(rt, &out, at);
-}
-
-// A dump is of one trace, and nothing is beside it.
-fn run_if_possible(rt: &(impl Files + Env + Print + Complain), count: usize, o: Options) {
-    if o.dump && (o.answers || o.state) {
-        problems::dump_and_text(rt);
-    } else if o.dump && o.several {
-        problems::dump_of_several(rt);
-    } else {
-        run_traces(rt, count, o);
-    }
+    out.flush();
 }
 
 fn main(rt: HostRuntime) {
     let count = console::arg_count(&rt);
-    let o = read_options(&rt, count);
-    if o.is_known {
-        if count < 2 || o.help {
-            print_usage(&rt);
-        } else if o.first < count {
-            run_if_possible(&rt, count, o);
-        } else {
-            problems::no_trace(&rt);
-        }
+    match read_request(&rt, count) {
+        Ok(Request::Usage) => print_usage(&rt),
+        Ok(Request::Replay(options, traces)) => run_traces(&rt, traces, options),
+        Err(refusal) => problems::refuse(&rt, refusal),
     }
 }

@@ -1,87 +1,88 @@
 // What goes wrong, a line on standard error each.
-use console::Complain;
+use crate::read_argument;
+use console::{Complain, LONGEST_NAME};
+use std::env::Env;
 use std::io;
+use text::Page;
+use trace::Malformed;
 
 // Room for the longest name of a file, and for words beside it.
 const LONGEST: usize = 8192;
 
-fn put_file(line: &mut [u8], name: &[u8]) -> usize {
-    let at = text::put(line, 0, b"replay: ");
-    text::put(line, at, name)
+// Why nothing is replayed.
+#[derive(Drop)]
+pub(crate) enum Refusal {
+    // The argument of this number.
+    UnknownFlag(usize),
+    NoTrace,
+    DumpAndText,
+    DumpOfSeveral,
+}
+
+// A line of what is put on it.
+fn tell<F: FnOnce(&mut Page<'_>)>(rt: &impl Complain, put_words: F)
+    requires { F.IsAlwaysCallable put_words }
+{
+    let mut buffer = [0u8; LONGEST];
+    let mut line = Page::new(&mut buffer);
+    line.put(b"replay: ");
+    put_words(&mut line);
+    line.put_byte(b'\n');
+    console::write(&mut rt.complaints(), line.text());
+}
+
+pub(crate) fn refuse(rt: &(impl Env + Complain), refusal: Refusal) {
+    match refusal {
+        Refusal::UnknownFlag(i) => unknown_flag(rt, i),
+        Refusal::NoTrace => tell(rt, |line| line.put(b"no trace given")),
+        Refusal::DumpAndText => tell(rt, |line| {
+            line.put(b"--dump goes without --answers and --state")
+        }),
+        Refusal::DumpOfSeveral => tell(rt, |line| line.put(b"--dump takes one trace")),
+    }
+}
+
+fn unknown_flag(rt: &(impl Env + Complain), i: usize) {
+    let mut buffer = [0u8; LONGEST_NAME];
+    let flag = read_argument(rt, i, &mut buffer);
+    tell(rt, |line| {
+        line.put(b"unknown flag ");
+        line.put(flag);
+    });
 }
 
 // A file that can't be opened or read: the system's words say why.
 pub(crate) fn unreadable(rt: &impl Complain, name: &[u8], error: io::Error) {
-    let mut line = [0u8; LONGEST];
-    let at = put_file(&mut line, name);
-    console::fail(&mut rt.complaints(), text::before(&line, at), error);
+    let mut buffer = [0u8; LONGEST];
+    let mut line = Page::new(&mut buffer);
+    line.put(b"replay: ");
+    line.put(name);
+    console::fail(&mut rt.complaints(), line.text(), error);
 }
 
-fn write_line(rt: &impl Complain, line: &[u8], at: usize) {
-    console::write(&mut rt.complaints(), text::before(line, at));
+pub(crate) fn malformed(rt: &impl Complain, name: &[u8], row: u64, word: Malformed) {
+    tell(rt, |line| {
+        line.put(name);
+        line.put(b": row ");
+        line.put_decimal(row);
+        line.put(b": word ");
+        line.put_decimal(u64::from(word));
+        line.put(b" breaks a rule");
+    });
 }
 
-// Words, and a number after them.
-fn put_number(line: &mut [u8], at: usize, words: &[u8], n: u64) -> usize {
-    let next = text::put(line, at, words);
-    text::put_decimal(line, next, n)
-}
-
-pub(crate) fn malformed(rt: &impl Complain, name: &[u8], row: u64, word: u64) {
-    let mut line = [0u8; LONGEST];
-    let mut at = put_file(&mut line, name);
-    at = put_number(&mut line, at, b": row ", row);
-    at = put_number(&mut line, at, b": word ", word);
-    at = text::put(&mut line, at, b" breaks a rule\n");
-    write_line(rt, &line, at);
-}
-
-// Where the bytes that are no whole row lie.
-fn put_where(line: &mut [u8], at: usize, rows: u64) -> usize {
-    if rows == 0 {
-        text::put(line, at, b" and no row\n")
-    } else {
-        let next = put_number(line, at, b" left over after row ", rows - 1);
-        text::put_byte(line, next, b'\n')
-    }
-}
-
-fn put_bytes(line: &mut [u8], at: usize, count: u64) -> usize {
-    let next = put_number(line, at, b": ", count);
-    if count == 1 {
-        text::put(line, next, b" byte")
-    } else {
-        text::put(line, next, b" bytes")
-    }
-}
-
+// Bytes that are no whole row, after some rows.
 pub(crate) fn left_over(rt: &impl Complain, name: &[u8], count: u64, rows: u64) {
-    let mut line = [0u8; LONGEST];
-    let mut at = put_file(&mut line, name);
-    at = put_bytes(&mut line, at, count);
-    at = put_where(&mut line, at, rows);
-    write_line(rt, &line, at);
-}
-
-pub(crate) fn unknown_flag(rt: &impl Complain, flag: &[u8]) {
-    let mut line = [0u8; LONGEST];
-    let mut at = text::put(&mut line, 0, b"replay: unknown flag ");
-    at = text::put(&mut line, at, flag);
-    at = text::put_byte(&mut line, at, b'\n');
-    write_line(rt, &line, at);
-}
-
-pub(crate) fn no_trace(rt: &impl Complain) {
-    console::write(&mut rt.complaints(), b"replay: no trace given\n");
-}
-
-pub(crate) fn dump_and_text(rt: &impl Complain) {
-    console::write(
-        &mut rt.complaints(),
-        b"replay: --dump goes without --answers and --state\n",
-    );
-}
-
-pub(crate) fn dump_of_several(rt: &impl Complain) {
-    console::write(&mut rt.complaints(), b"replay: --dump takes one trace\n");
+    tell(rt, |line| {
+        line.put(name);
+        line.put(b": ");
+        line.put_decimal(count);
+        line.put(if count == 1 { b" byte" } else { b" bytes" });
+        if rows == 0 {
+            line.put(b" and no row");
+        } else {
+            line.put(b" left over after row ");
+            line.put_decimal(rows - 1);
+        }
+    });
 }

@@ -1,7 +1,5 @@
 // The words for answers. Each is its index under a pattern at first.
-use std::num::wrapping_add_u64;
-use test_support::digest;
-use trace::codes::flag;
+use test_support::count;
 
 // How many there are. A run is lent some of them.
 pub(crate) const ROOM: usize = 128;
@@ -11,25 +9,16 @@ fn unanswered(pattern: u64, i: usize) -> u64 {
 }
 
 pub(crate) fn fill(answers: &mut [u64; ROOM], pattern: u64) {
-    for i in 0..ROOM {
-        answers[i] = unanswered(pattern, i);
+    for (i, word) in answers.iter_mut().enumerate() {
+        *word = unanswered(pattern, i);
     }
 }
 
 // How many words are as they were at first.
 pub(crate) fn kept(answers: &[u64; ROOM], pattern: u64) -> u64 {
-    let mut count = 0;
-    for i in 0..ROOM {
-        count = wrapping_add_u64(count, flag(answers[i] == unanswered(pattern, i)));
+    let mut kept = 0;
+    for (i, word) in answers.iter().enumerate() {
+        count(&mut kept, *word == unanswered(pattern, i));
     }
-    count
-}
-
-// The digest h with every word taken in.
-pub(crate) fn digest_answers(h: u64, answers: &[u64; ROOM]) -> u64 {
-    let mut d = h;
-    for i in 0..ROOM {
-        d = digest(d, answers[i]);
-    }
-    d
+    kept
 }

@@ -19,6 +19,7 @@ use slices::run_slices;
 fn main(rt: HostRuntime) {
     let mut words = [0u64; WORDS];
     input::read_words(&rt, &mut words);
-    let s = run_slices(&words);
-    tally::report(&rt, malformed::run_malformed(&words, s));
+    let mut s = run_slices(&words);
+    malformed::run_malformed(&words, &mut s);
+    s.tally.report(&rt);
 }

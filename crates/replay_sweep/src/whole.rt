@@ -1,10 +1,9 @@
 // Whole runs, by value.
-use crate::answer_words::{ROOM, digest_answers, fill};
-use crate::input::at_most;
-use crate::tally::{Tally, with_run};
+use crate::answer_words::{ROOM, fill};
+use crate::tally::Tally;
 use recorder::State;
 use sweep_support::states::digest_value;
-use trace::Replayed;
+use test_support::digest_words;
 use trace::runs::replay;
 
 // What a run is lent and starts from: a state, the pattern of the answer words, and how many of them.
@@ -16,7 +15,7 @@ pub(crate) struct Trial {
 }
 
 // How a run ended: what it gave, and digests of the state and of the answer words.
-#[derive(Clone, Copy)]
+#[derive(Clone, Copy, PartialEq, Eq)]
 pub(crate) struct End {
     pub(crate) number: u64,
     pub(crate) count: usize,
@@ -24,45 +23,33 @@ pub(crate) struct End {
     pub(crate) answers: u64,
 }
 
-// A whole run: the state after it, how it ended, and what was seen so far.
+// A whole run: the state after it, and how it ended.
 #[derive(Clone, Copy)]
 pub(crate) struct Whole {
     pub(crate) state: State,
     pub(crate) end: End,
-    pub(crate) tally: Tally,
 }
 
-fn replay_lent(s: State, rows: &[u64], answers: &mut [u64], lent: usize) -> Replayed {
-    let e = at_most(lent, answers.len());
-    replay(s, rows, &mut answers[0..e])
-}
-
-fn replayed(trial: Trial, rows: &[u64], answers: &mut [u64; ROOM]) -> Replayed {
-    let s = trial.start;
-    fill(answers, trial.pattern);
-    replay_lent(s, rows, answers, trial.lent)
-}
-
-fn end_of(q: Replayed, answers: &[u64; ROOM]) -> End {
-    let s = q.state;
-    End {
+pub(crate) fn run_whole(tally: &mut Tally, trial: &Trial, rows: &[u64]) -> Whole {
+    let mut answers = [0; ROOM];
+    fill(&mut answers, trial.pattern);
+    let lent = trial.lent.min(ROOM);
+    let q = replay(trial.start, rows, &mut answers[..lent]);
+    let state = q.state;
+    tally.run(
+        q.number,
+        q.count,
+        state.registers,
+        &answers,
+        trial.pattern,
+        0,
+    );
+    tally.digest = digest_value(tally.digest, state);
+    let end = End {
         number: q.number,
         count: q.count,
-        state: digest_value(0, s),
-        answers: digest_answers(0, answers),
-    }
-}
-
-pub(crate) fn run_whole(t: Tally, trial: Trial, rows: &[u64]) -> Whole {
-    let mut answers = [0; ROOM];
-    let q = replayed(trial, rows, &mut answers);
-    let state = q.state;
-    let r = state.registers;
-    let mut tally = with_run(t, q.number, q.count, r, &answers, trial.pattern, 0);
-    tally.digest = digest_value(tally.digest, state);
-    Whole {
-        state,
-        end: end_of(q, &answers),
-        tally,
-    }
+        state: digest_value(0, state),
+        answers: digest_words(0, &answers),
+    };
+    Whole { state, end }
 }

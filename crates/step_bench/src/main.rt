@@ -11,6 +11,7 @@ use std::io;
 use sweep_support::digests::digest_answer;
 use sweep_support::lines::put_word;
 use sweep_support::states::{digest_state, digest_value};
+use text::Page;
 
 // How many calls a round has, and how many rounds there are at most.
 const CALLS: u64 = 100_000;
@@ -60,45 +61,42 @@ fn run_by_value() -> u64 {
     digest_value(answers, s)
 }
 
+// A loop for each of these two: a step that is handed in has the registers copied once more, which would be timed.
 fn run_in_place() -> u64 {
     let s = start();
-    let mut ctrsource = s.ctrsource;
-    let mut ctrtarget = s.ctrtarget;
-    let mut ctrdata = s.ctrdata;
+    let mut entries = s.entries;
     let mut r = s.registers;
     let mut answers = 0;
     for i in 0..CALLS {
-        let e = Event::Retired(call(i));
-        let a = step_in_place(&mut ctrsource, &mut ctrtarget, &mut ctrdata, r, e);
+        let a = step_in_place(&mut entries, r, Event::Retired(call(i)));
         answers = digest_answer(answers, a.number, a.value);
         r = a.registers;
     }
-    digest_state(answers, r, &ctrsource, &ctrtarget, &ctrdata)
+    digest_state(answers, r, &entries)
 }
 
 fn run_by_kind() -> u64 {
     let s = start();
-    let mut ctrsource = s.ctrsource;
-    let mut ctrtarget = s.ctrtarget;
-    let mut ctrdata = s.ctrdata;
+    let mut entries = s.entries;
     let mut r = s.registers;
     let mut answers = 0;
     for i in 0..CALLS {
-        let a = retire(&mut ctrsource, &mut ctrtarget, &mut ctrdata, r, call(i));
+        let a = retire(&mut entries, r, call(i));
         answers = digest_answer(answers, a.number, a.value);
         r = a.registers;
     }
-    digest_state(answers, r, &ctrsource, &ctrtarget, &ctrdata)
+    digest_state(answers, r, &entries)
 }
 
 fn report(rt: &impl Print, name: &[u8], digest: u64) {
-    let mut out = [0u8; 64];
-    let at = put_word(&mut out, 0, name, digest);
-    console::write(&mut io::writer(rt), text::before(&out, at));
+    let mut buffer = [0u8; 64];
+    let mut page = Page::new(&mut buffer);
+    put_word(&mut page, name, digest);
+    console::write(&mut io::writer(rt), page.text());
 }
 
-fn run_round(rt: &impl Print, byte: u8) {
-    match byte {
+fn run_round(rt: &impl Print, letter: u8) {
+    match letter {
         b'v' => report(rt, b"by value 0x", run_by_value()),
         b'p' => report(rt, b"in place 0x", run_in_place()),
         b'k' => report(rt, b"by kind 0x", run_by_kind()),
@@ -109,7 +107,7 @@ fn run_round(rt: &impl Print, byte: u8) {
 fn main(rt: HostRuntime) {
     let mut rounds = [0u8; ROUNDS];
     console::fill(&mut rt.reader(), &mut rounds);
-    for k in 0..ROUNDS {
-        run_round(&rt, rounds[k]);
+    for letter in rounds {
+        run_round(&rt, letter);
     }
 }

@@ -8,7 +8,8 @@ use Rattle.machine.specs.declared.Enables.{Enables}
 use Rattle.machine.specs.declared.Entry.{Entry}
 use Rattle.machine.specs.declared.Registers.{Registers}
 use Rattle.machine.specs.declared.Selects.{Selects}
-use Rattle.recorder.specs.Entries.{entries, Entries, entry_at}
+use Rattle.recorder.specs.Entries.{entries, entry_at}
+use Rattle.recorder.specs.declared.Entries.{Entries}
 use Rattle.test_support.specs.Words.{digested}
 use Rattle.trace.specs.Codes.{flag_of, mode_code}
 

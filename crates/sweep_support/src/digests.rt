@@ -6,69 +6,71 @@ use machine::{Buffer, Constants, ControlWords, Cycles, Enables, Entry, Registers
 use test_support::digest;
 use trace::codes::{flag, mode_code};
 
+#[tactic(auto, unfolding(crate::specs::Digests::with_answer))]
 pub fn digest_answer(h: u64, number: u64, value: u64) -> u64
     ensures { result ≡ with_answer h number value }
 {
     digest(digest(h, number), value)
 }
 
+#[tactic(auto, unfolding(crate::specs::Digests::with_entry))]
 pub fn digest_entry(h: u64, e: Entry) -> u64
     ensures { result ≡ with_entry h e }
 {
     digest(digest(digest(h, e.ctrsource), e.ctrtarget), e.ctrdata)
 }
 
+#[tactic(auto, unfolding(crate::specs::Digests::with_controls))]
 fn digest_controls(h: u64, c: ControlWords) -> u64
     ensures { result ≡ with_controls h c }
 {
     digest(digest(h, c.mctrctl), c.vsctrctl)
 }
 
+#[tactic(auto, unfolding(crate::specs::Digests::with_buffer))]
 fn digest_buffer(h: u64, b: Buffer) -> u64
     ensures { result ≡ with_buffer h b }
 {
     digest(digest(digest(h, b.code), b.wrptr), flag(b.frozen))
 }
 
+#[tactic(auto, unfolding(crate::specs::Digests::with_selects))]
 fn digest_selects(h: u64, s: Selects) -> u64
     ensures { result ≡ with_selects h s }
 {
     digest(digest(h, s.siselect), s.vsiselect)
 }
 
+#[tactic(auto, unfolding(crate::specs::Digests::with_enables))]
 fn digest_enables(h: u64, e: Enables) -> u64
     ensures { result ≡ with_enables h e }
 {
     digest(digest(h, flag(e.mstateen0)), flag(e.hstateen0))
 }
 
+#[tactic(auto, unfolding(crate::specs::Digests::with_cycles))]
 fn digest_cycles(h: u64, c: Cycles) -> u64
     ensures { result ≡ with_cycles h c }
 {
     digest(digest(h, c.counter), flag(c.ccv))
 }
 
+#[tactic(auto, unfolding(crate::specs::Digests::with_constants))]
 fn digest_constants(h: u64, c: Constants) -> u64
     ensures { result ≡ with_constants h c }
 {
     digest(h, flag(c.zc))
 }
 
+#[tactic(auto, unfolding(crate::specs::Digests::with_registers))]
 pub fn digest_registers(h: u64, r: Registers) -> u64
     ensures { result ≡ with_registers h r }
 {
-    let m = r.mode;
-    let c = r.controls;
-    let b = r.buffer;
-    let s = r.selects;
-    let e = r.enables;
-    let y = r.cycles;
-    let k = r.constants;
-    let mut d = digest(h, mode_code(m));
-    d = digest_controls(d, c);
-    d = digest_buffer(d, b);
-    d = digest_selects(d, s);
-    d = digest_enables(d, e);
-    d = digest_cycles(d, y);
-    digest_constants(d, k)
+    let mut d = digest(h, mode_code(r.mode));
+    d = digest_controls(d, r.controls);
+    d = digest_buffer(d, r.buffer);
+    d = digest_selects(d, r.selects);
+    d = digest_enables(d, r.enables);
+    d = digest_cycles(d, r.cycles);
+    digest_constants(d, r.constants)
 }

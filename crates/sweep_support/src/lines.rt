@@ -1,73 +1,80 @@
-// Lines of a name and a number. Each function writes at a place and answers the next one.
+// Lines of a name and a number, put on a page.
 ghost use Rattle.std.specs.Prelude.{◌≡◌, length};
-ghost use Rattle.text.specs.Page.{page};
+ghost use Rattle.text.specs.Page.{OneBuffer, shown};
 ghost use Rattle.sweep_support.specs.Lines.{word_line, count_line, numbered_line, numbered_lines, number_lines, cell, row_line};
 
+use text::Page;
+
 // A name, and a word in hexadecimal.
-pub fn put_word(out: &mut [u8], at: usize, name: &[u8], w: u64) -> usize
-    ensures { page result out.new ≡ word_line (page at out.old) name.now w }
+#[tactic(auto, unfolding(crate::specs::Lines::word_line))]
+pub fn put_word(page: &mut Page, name: &[u8], w: u64)
+    ensures same_buffer { OneBuffer page.new page.old }
+    ensures put { shown page.new ≡ word_line (shown page.old) name.now w }
 {
-    let mut next = text::put(out, at, name);
-    next = text::put_hex(out, next, w, 16);
-    text::put_byte(out, next, b'\n')
+    page.put(name);
+    page.put_hex(w, 16);
+    page.put_byte(b'\n');
 }
 
 // A name, and a count in decimal.
-pub fn put_count(out: &mut [u8], at: usize, name: &[u8], count: u64) -> usize
-    ensures { page result out.new ≡ count_line (page at out.old) name.now count }
+#[tactic(auto, unfolding(crate::specs::Lines::count_line))]
+pub fn put_count(page: &mut Page, name: &[u8], count: u64)
+    ensures same_buffer { OneBuffer page.new page.old }
+    ensures put { shown page.new ≡ count_line (shown page.old) name.now count }
 {
-    let mut next = text::put(out, at, name);
-    next = text::put_decimal(out, next, count);
-    text::put_byte(out, next, b'\n')
+    page.put(name);
+    page.put_decimal(count);
+    page.put_byte(b'\n');
 }
 
 // A name with a number, and a count.
-pub fn put_numbered(out: &mut [u8], at: usize, name: &[u8], k: u64, count: u64) -> usize
-    ensures { page result out.new ≡ numbered_line (page at out.old) name.now k count }
+#[tactic(auto, unfolding(crate::specs::Lines::numbered_line))]
+pub fn put_numbered(page: &mut Page, name: &[u8], k: u64, count: u64)
+    ensures same_buffer { OneBuffer page.new page.old }
+    ensures put { shown page.new ≡ numbered_line (shown page.old) name.now k count }
 {
-    let mut next = text::put(out, at, name);
-    next = text::put_decimal(out, next, k);
-    put_count(out, next, b" ", count)
+    page.put(name);
+    page.put_decimal(k);
+    put_count(page, b" ", count);
 }
 
 // Such a line for each count, numbered from 0.
-pub fn put_counts(out: &mut [u8], at: usize, name: &[u8], counts: &[u64]) -> usize
-    ensures { page result out.new ≡ numbered_lines (page at out.old) name.now counts.now (length counts.now) }
+pub fn put_counts(page: &mut Page, name: &[u8], counts: &[u64])
+    ensures same_buffer { OneBuffer page.new page.old }
+    ensures put { shown page.new ≡ numbered_lines (shown page.old) name.now counts.now (length counts.now) }
 {
-    let mut next = at;
-    let mut k = 0;
-    while k < counts.len() {
-        next = put_numbered(out, next, name, k as u64, counts[k]);
-        k += 1;
+    for (k, count) in counts.iter().enumerate() {
+        put_numbered(page, name, k as u64, *count);
     }
-    next
 }
 
 // How often each number was answered: those from 0 up, then 8.
-pub fn put_numbers(out: &mut [u8], at: usize, name: &[u8], counts: &[u64], eights: u64) -> usize
-    ensures { page result out.new ≡ number_lines (page at out.old) name.now counts.now eights }
+#[tactic(auto, unfolding(crate::specs::Lines::number_lines))]
+pub fn put_numbers(page: &mut Page, name: &[u8], counts: &[u64], eights: u64)
+    ensures same_buffer { OneBuffer page.new page.old }
+    ensures put { shown page.new ≡ number_lines (shown page.old) name.now counts.now eights }
 {
-    let next = put_counts(out, at, name, counts);
-    put_numbered(out, next, name, 8, eights)
+    put_counts(page, name, counts);
+    put_numbered(page, name, 8, eights);
 }
 
 // A count behind a space.
-fn put_cell(out: &mut [u8], at: usize, count: u64) -> usize
-    ensures { page result out.new ≡ cell (page at out.old) count }
+#[tactic(auto, unfolding(crate::specs::Lines::cell))]
+fn put_cell(page: &mut Page, count: u64)
+    ensures same_buffer { OneBuffer page.new page.old }
+    ensures put { shown page.new ≡ cell (shown page.old) count }
 {
-    let next = text::put_byte(out, at, b' ');
-    text::put_decimal(out, next, count)
+    page.put_byte(b' ');
+    page.put_decimal(count);
 }
 
 // Counts in a row, each behind a space.
-pub fn put_row(out: &mut [u8], at: usize, counts: &[u64]) -> usize
-    ensures { page result out.new ≡ row_line (page at out.old) counts.now }
+pub fn put_row(page: &mut Page, counts: &[u64])
+    ensures same_buffer { OneBuffer page.new page.old }
+    ensures put { shown page.new ≡ row_line (shown page.old) counts.now }
 {
-    let mut next = at;
-    let mut k = 0;
-    while k < counts.len() {
-        next = put_cell(out, next, counts[k]);
-        k += 1;
+    for count in counts {
+        put_cell(page, *count);
     }
-    text::put_byte(out, next, b'\n')
+    page.put_byte(b'\n');
 }

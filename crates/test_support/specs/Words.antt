@@ -1,5 +1,5 @@
 -- Words for test programs, in plain arithmetic: a pseudo-random sequence, and a digest of the words that a test saw.
-use Rattle.std.specs.Prelude.{ℕ, ◌+◌, ◌*◌, ◌/◌, ◌%◌, ◌^◌, bit_xor}
+use Rattle.std.specs.Prelude.{ℕ, ◌+◌, ◌*◌, ◌/◌, ◌%◌, ◌^◌, bit_xor, List, [], ◌∷◌}
 
 -- x, exclusive or x shifted up by k bits
 abbrev pub xor_up : ℕ → ℕ → ℕ
@@ -20,3 +20,12 @@ rotated h = h * 2 ^ 5 % 2 ^ 64 + h / 2 ^ 59
 -- the digest h with the word w taken in
 unfoldable pub digested : ℕ → ℕ → ℕ
 digested h w = (bit_xor (rotated h) w + 0x9E3779B97F4A7C15) % 2 ^ 64
+
+-- and with words taken in, the first one first
+abbrev pub digested_all : ℕ → List ℕ → ℕ
+digested_all h [] = h
+digested_all h (w ∷ ws) = digested_all (digested h w) ws
+
+-- where every sequence of words starts
+abbrev pub seed : ℕ
+seed = 88172645463325252

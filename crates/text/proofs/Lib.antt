@@ -1,3 +1,3 @@
 -- Laws that callers' proofs cite: of text on a page, and of numbers as digits.
-pub mod Page
+pub mod Pages
 pub mod Digits

@@ -1,30 +1,29 @@
 -- A run over the rows of a trace, by recursion on the events done: each event gets the state that the last one handed back, and its
 -- answer two words, number and value.
-use Rattle.std.specs.Prelude.{ℕ, zero, suc, ◌+◌, ◌*◌, ◌/◌, ◌%◌, ◌^◌, Bool, true, false, ◌&&◌, List, eqb, ltb, length, get_or, set}
+use Rattle.std.specs.Prelude.{ℕ, zero, suc, ◌+◌, ◌*◌, ◌/◌, ◌%◌, ◌^◌, Bool, true, false, ◌&&◌, List, eqb, ltb, length, get_or, set, Result, Ok, Err, Option, Some, None}
 use Rattle.std.specs.Prelude.{if◌then◌else◌}
-use Rattle.recorder.specs.Entries.{Entries}
 use Rattle.recorder.specs.Steps.{state_of, step_of}
+use Rattle.machine.specs.declared.Event.{Event}
 use Rattle.machine.specs.declared.Registers.{Registers}
 use Rattle.recorder.specs.declared.Answered.{Answered}
+use Rattle.recorder.specs.declared.Entries.{Entries}
 use Rattle.recorder.specs.declared.State.{State}
 use Rattle.trace.specs.Rows.{fits_retired, row_of}
-use Rattle.trace.specs.declared.Row.{Row}
-use Rattle.trace.specs.declared.Row.TheVariants.{WellFormed, Malformed}
+use Rattle.trace.specs.declared.Malformed.{Malformed}
 use Rattle.trace.specs.declared.Replayed.{Replayed}
 use Rattle.trace.specs.declared.Ran.{Ran}
-use Rattle.trace.specs.declared.RowRan.{RowRan}
 
 -- row i of a trace
-unfoldable pub row_at : List ℕ → ℕ → Row
+unfoldable pub row_at : List ℕ → ℕ → Result Event Malformed
 row_at ws i = row_of (get_or ws (4 * i) 0) (get_or ws (4 * i + 1) 0) (get_or ws (4 * i + 2) 0) (get_or ws (4 * i + 3) 0)
 
 -- word 0 of a retired word: kind 0, and below the cycles no bit but taken and mispredicted
 unfoldable pub is_retired_head : ℕ → Bool
 is_retired_head w = eqb (w % 2 ^ 8) 0 && fits_retired w
 
-abbrev pub is_well_formed : Row → Bool
-is_well_formed (WellFormed e) = true
-is_well_formed (Malformed k) = false
+abbrev pub is_well_formed : Result Event Malformed → Bool
+is_well_formed (Ok e) = true
+is_well_formed (Err k) = false
 
 -- how many of the first n rows stand before the first malformed one
 unfoldable pub leading : List ℕ → ℕ → ℕ
@@ -41,11 +40,11 @@ abbrev pub answered : List ℕ → ℕ → ℕ → ℕ → List ℕ
 answered a i number value = set (set a (2 * i) number) (2 * i + 1) value
 
 -- row i run: its event and the answer to it
-unfoldable pub next : Run → ℕ → Row → Run
-next p i (WellFormed e) =
+unfoldable pub next : Run → ℕ → Result Event Malformed → Run
+next p i (Ok e) =
     let t = step_of p.state e in
     record { state = t.state; answers = answered p.answers i t.number t.value }
-next p i (Malformed k) = p
+next p i (Err k) = p
 
 -- a row run from a state, by itself: whether it is well-formed, and then the answer to its event and the state after it
 pub record RowRun : Type 0 where
@@ -54,9 +53,9 @@ pub record RowRun : Type 0 where
   pub value : ℕ
   pub state : State
 
-unfoldable pub row_run_of : State → Row → RowRun
-row_run_of s (WellFormed e) = let t = step_of s e in record { well_formed = true; number = t.number; value = t.value; state = t.state }
-row_run_of s (Malformed k) = record { well_formed = false; number = 0; value = 0; state = s }
+unfoldable pub row_run_of : State → Result Event Malformed → RowRun
+row_run_of s (Ok e) = let t = step_of s e in record { well_formed = true; number = t.number; value = t.value; state = t.state }
+row_run_of s (Err k) = record { well_formed = false; number = 0; value = 0; state = s }
 
 -- the first n rows run
 unfoldable pub run_of : List ℕ → State → List ℕ → ℕ → Run
@@ -95,12 +94,7 @@ replayed r a = record { number = r.number; count = r.count; state = r.state; ans
 abbrev pub ran_to : Ran → Entries → List ℕ → Replay
 ran_to r w a = record { number = r.number; count = r.count; state = state_of r.registers w; answers = a }
 
--- and of one row
-abbrev pub row_ran : RowRan → Entries → RowRun
-row_ran q w = record { well_formed = q.well_formed; number = q.number; value = q.value; state = state_of q.registers w }
-
-abbrev pub well_formed_answer : Answered → RowRan
-well_formed_answer a = record { well_formed = true; number = a.number; value = a.value; registers = a.registers }
-
-abbrev pub malformed_answer : Registers → RowRan
-malformed_answer r = record { well_formed = false; number = 0; value = 0; registers = r }
+-- and of one row, from registers r: what its event answers, or nothing of a malformed one, which leaves them as they are
+abbrev pub row_ran : Registers → Option Answered → Entries → RowRun
+row_ran r (Some a) w = record { well_formed = true; number = a.number; value = a.value; state = state_of a.registers w }
+row_ran r None w = record { well_formed = false; number = 0; value = 0; state = state_of r w }

@@ -8,7 +8,7 @@ use machine::{Mode, Operation};
 pub fn flag(b: bool) -> u64
     ensures { result ≡ flag_of b }
 {
-    if b { 1 } else { 0 }
+    u64::from(b)
 }
 
 // The code of a mode.
@@ -25,6 +25,7 @@ pub fn mode_code(m: Mode) -> u64
 }
 
 // The mode of a code; VS for numbers that are none.
+#[tactic(auto, unfolding(crate::specs::Codes::mode_of))]
 pub fn mode_of(code: u64) -> Mode
     ensures { result ≡ mode_of code }
 {
@@ -50,6 +51,7 @@ pub fn operation_code(o: Operation) -> u64
 }
 
 // The operation of a code; clear for numbers that are none.
+#[tactic(auto, unfolding(crate::specs::Codes::operation_of))]
 pub fn operation_of(code: u64) -> Operation
     ensures { result ≡ operation_of code }
 {

@@ -1,18 +1,37 @@
 // Traces: rows of four 64-bit words, one to an event, and whole runs of them (docs/RULES.md, W).
 #![tactic(auto)]
 
+ghost use Rattle.std.specs.Prelude.{◌≡◌};
+ghost use Rattle.trace.specs.Codes.{word_number};
+
 pub mod codes;
 pub mod rows;
 pub mod runs;
 
-use machine::{Event, Registers};
+use machine::Registers;
 use recorder::State;
 
-// What four words mean: an event, or the first of them that breaks a rule of the format.
-#[derive(Clone, Copy)]
-pub enum Row {
-    WellFormed(Event),
-    Malformed(u64),
+// The first of a row's words that breaks a rule of the format.
+#[derive(Clone, Copy, PartialEq, Eq)]
+pub enum Malformed {
+    Word0,
+    Word1,
+    Word2,
+    Word3,
+}
+
+// Its number.
+impl From<Malformed> for u64 {
+    ghost from_gives = { λ m n. n ≡ word_number m };
+
+    fn from(m: Malformed) -> u64 {
+        match m {
+            Malformed::Word0 => 0,
+            Malformed::Word1 => 1,
+            Malformed::Word2 => 2,
+            Malformed::Word3 => 3,
+        }
+    }
 }
 
 // What became of a trace: the run's number, how many events were run, and the state after them.
@@ -29,13 +48,4 @@ pub struct Ran {
     pub number: u64,
     pub count: usize,
     pub registers: Registers,
-}
-
-// What became of a row: whether it is well-formed, and then the answer to its event.
-#[derive(Clone, Copy)]
-pub(crate) struct RowRan {
-    well_formed: bool,
-    number: u64,
-    value: u64,
-    registers: Registers,
 }

@@ -1,269 +1,134 @@
 // A whole trace: its rows are run one after the other in place, and each answer takes two words.
-ghost use Rattle.std.specs.Prelude.{◌≡◌, false, ◌+◌, ◌*◌, ◌%◌, ◌^◌, ◌≤◌, ◌<◌, eqb, length};
+ghost use Rattle.std.specs.Prelude.{◌≡◌, false, ◌+◌, ◌*◌, ◌%◌, ◌^◌, ◌≤◌, ◌<◌, length};
 ghost use Rattle.machine.specs.Good.{good_of};
-ghost use Rattle.recorder.specs.Entries.{entries_of};
 ghost use Rattle.recorder.specs.Steps.{state_of, Whole};
-ghost use Rattle.trace.specs.Rows.{retired_row, trap_row, return_row, access_row, sctrclr_row, host_row, row_by, row_of};
-ghost use Rattle.trace.specs.Runs.{row_at, answered, is_retired_head, row_run_of, row_ran, well_formed_answer, malformed_answer, ran_of, replay_of, replayed, ran_to};
+ghost use Rattle.trace.specs.Rows.{retired_row, trap_row, return_row, access_row, sctrclr_row, host_row, row_of};
+ghost use Rattle.trace.specs.Runs.{row_at, answered, is_retired_head, row_run_of, row_ran, ran_of, replay_of, replayed, ran_to};
 
-use crate::rows::{
-    HOST_LIMIT, RETIRED_LIMIT, SCTRCLR_LIMIT, access_in, enables_in, head_below, is_access_row,
-    is_plain_row, is_retired_row, is_return_row, is_trap_row, is_zero, retired_in, return_in,
-    trap_in,
-};
-use crate::{Ran, Replayed, RowRan};
+use crate::rows::{HOST_LIMIT, RETIRED_LIMIT, SCTRCLR_LIMIT, Words};
+use crate::{Ran, Replayed};
 use machine::good::is_good;
 use machine::{Buffer, Constants, ControlWords, Cycles, Enables, Registers, Selects};
-use recorder::{Answered, ENTRIES, State, kinds};
-
-fn ran(a: Answered) -> RowRan
-    ensures { result ≡ well_formed_answer a }
-{
-    let registers = a.registers;
-    RowRan {
-        well_formed: true,
-        number: a.number,
-        value: a.value,
-        registers,
-    }
-}
-
-fn malformed(r: Registers) -> RowRan
-    ensures { result ≡ malformed_answer r }
-{
-    RowRan {
-        well_formed: false,
-        number: 0,
-        value: 0,
-        registers: r,
-    }
-}
+use recorder::{Answered, Entries, State, kinds};
 
 // The rows of each kind. They are not decoded to an event first: that would be packed and unpacked for each row.
-fn run_retired(
-    ctrsource: &mut [u64; ENTRIES],
-    ctrtarget: &mut [u64; ENTRIES],
-    ctrdata: &mut [u64; ENTRIES],
-    r: Registers,
-    good: bool,
-    w: u64,
-    a: u64,
-    b: u64,
-    c: u64,
-) -> RowRan
+fn run_retired(entries: &mut Entries, r: Registers, good: bool, x: Words) -> Option<Answered>
     requires { good ≡ good_of r }
-    ensures { row_run_of (state_of r (entries_of ctrsource.old ctrtarget.old ctrdata.old)) (retired_row w a b c) ≡ row_ran result (entries_of ctrsource.new ctrtarget.new ctrdata.new) }
+    ensures { row_run_of (state_of r entries.old) (retired_row x.zero x.one x.two x.three) ≡ row_ran r result entries.new }
 {
-    if is_retired_row(w, a) {
-        let e = retired_in(w, a, b, c);
-        let x = kinds::retire_with(ctrsource, ctrtarget, ctrdata, r, e, good);
-        ran(x)
+    if x.is_retired_row() {
+        Some(kinds::retire_with(entries, r, x.retired(), good))
     } else {
-        malformed(r)
+        None
     }
 }
 
-fn run_trap(
-    ctrsource: &mut [u64; ENTRIES],
-    ctrtarget: &mut [u64; ENTRIES],
-    ctrdata: &mut [u64; ENTRIES],
-    r: Registers,
-    w: u64,
-    a: u64,
-    b: u64,
-    c: u64,
-) -> RowRan
-    ensures { row_run_of (state_of r (entries_of ctrsource.old ctrtarget.old ctrdata.old)) (trap_row w a b c) ≡ row_ran result (entries_of ctrsource.new ctrtarget.new ctrdata.new) }
+fn run_trap(entries: &mut Entries, r: Registers, x: Words) -> Option<Answered>
+    ensures { row_run_of (state_of r entries.old) (trap_row x.zero x.one x.two x.three) ≡ row_ran r result entries.new }
 {
-    if is_trap_row(w) {
-        let x = kinds::trap(ctrsource, ctrtarget, ctrdata, r, trap_in(w, a, b, c));
-        ran(x)
+    if x.is_trap_row() {
+        Some(kinds::trap(entries, r, x.trap()))
     } else {
-        malformed(r)
+        None
     }
 }
 
-fn run_return(
-    ctrsource: &mut [u64; ENTRIES],
-    ctrtarget: &mut [u64; ENTRIES],
-    ctrdata: &mut [u64; ENTRIES],
-    r: Registers,
-    w: u64,
-    a: u64,
-    b: u64,
-    c: u64,
-) -> RowRan
-    ensures { row_run_of (state_of r (entries_of ctrsource.old ctrtarget.old ctrdata.old)) (return_row w a b c) ≡ row_ran result (entries_of ctrsource.new ctrtarget.new ctrdata.new) }
+fn run_return(entries: &mut Entries, r: Registers, x: Words) -> Option<Answered>
+    ensures { row_run_of (state_of r entries.old) (return_row x.zero x.one x.two x.three) ≡ row_ran r result entries.new }
 {
-    if is_return_row(w, a) {
-        let x = kinds::trap_return(ctrsource, ctrtarget, ctrdata, r, return_in(w, b, c));
-        ran(x)
+    if x.is_return_row() {
+        Some(kinds::trap_return(entries, r, x.trap_return()))
     } else {
-        malformed(r)
+        None
     }
 }
 
-fn run_access(
-    ctrsource: &mut [u64; ENTRIES],
-    ctrtarget: &mut [u64; ENTRIES],
-    ctrdata: &mut [u64; ENTRIES],
-    r: Registers,
-    w: u64,
-    a: u64,
-    b: u64,
-    c: u64,
-) -> RowRan
-    ensures { row_run_of (state_of r (entries_of ctrsource.old ctrtarget.old ctrdata.old)) (access_row w a b c) ≡ row_ran result (entries_of ctrsource.new ctrtarget.new ctrdata.new) }
+fn run_access(entries: &mut Entries, r: Registers, x: Words) -> Option<Answered>
+    ensures { row_run_of (state_of r entries.old) (access_row x.zero x.one x.two x.three) ≡ row_ran r result entries.new }
 {
-    if is_access_row(w, a, c) {
-        let x = kinds::access(ctrsource, ctrtarget, ctrdata, r, access_in(w, a, b));
-        ran(x)
+    if x.is_access_row() {
+        Some(kinds::access(entries, r, x.access()))
     } else {
-        malformed(r)
+        None
     }
 }
 
-fn run_sctrclr(
-    ctrsource: &mut [u64; ENTRIES],
-    ctrtarget: &mut [u64; ENTRIES],
-    ctrdata: &mut [u64; ENTRIES],
-    r: Registers,
-    w: u64,
-    a: u64,
-    b: u64,
-    c: u64,
-) -> RowRan
-    ensures { row_run_of (state_of r (entries_of ctrsource.old ctrtarget.old ctrdata.old)) (sctrclr_row w a b c) ≡ row_ran result (entries_of ctrsource.new ctrtarget.new ctrdata.new) }
+fn run_sctrclr(entries: &mut Entries, r: Registers, x: Words) -> Option<Answered>
+    ensures { row_run_of (state_of r entries.old) (sctrclr_row x.zero x.one x.two x.three) ≡ row_ran r result entries.new }
 {
-    if is_plain_row(SCTRCLR_LIMIT, w, a, b, c) {
-        let x = kinds::sctrclr(ctrsource, ctrtarget, ctrdata, r);
-        ran(x)
+    if x.is_plain_row(SCTRCLR_LIMIT) {
+        Some(kinds::sctrclr(entries, r))
     } else {
-        malformed(r)
+        None
     }
 }
 
-fn run_host(
-    ctrsource: &mut [u64; ENTRIES],
-    ctrtarget: &mut [u64; ENTRIES],
-    ctrdata: &mut [u64; ENTRIES],
-    r: Registers,
-    w: u64,
-    a: u64,
-    b: u64,
-    c: u64,
-) -> RowRan
-    ensures { row_run_of (state_of r (entries_of ctrsource.old ctrtarget.old ctrdata.old)) (host_row w a b c) ≡ row_ran result (entries_of ctrsource.new ctrtarget.new ctrdata.new) }
+fn run_host(entries: &mut Entries, r: Registers, x: Words) -> Option<Answered>
+    ensures { row_run_of (state_of r entries.old) (host_row x.zero x.one x.two x.three) ≡ row_ran r result entries.new }
 {
-    if is_plain_row(HOST_LIMIT, w, a, b, c) {
-        let x = kinds::host(ctrsource, ctrtarget, ctrdata, r, enables_in(w));
-        ran(x)
+    if x.is_plain_row(HOST_LIMIT) {
+        Some(kinds::host(entries, r, x.enables()))
     } else {
-        malformed(r)
+        None
     }
 }
 
 // A row by its kind, of which word 0 is not that of a retired word.
-fn run_by(
-    ctrsource: &mut [u64; ENTRIES],
-    ctrtarget: &mut [u64; ENTRIES],
-    ctrdata: &mut [u64; ENTRIES],
-    r: Registers,
-    kind: u64,
-    w: u64,
-    a: u64,
-    b: u64,
-    c: u64,
-) -> RowRan
-    requires kind { kind ≡ w % 2 ^ 8 }
-    requires other { is_retired_head w ≡ false }
-    ensures { row_run_of (state_of r (entries_of ctrsource.old ctrtarget.old ctrdata.old)) (row_by kind w a b c) ≡ row_ran result (entries_of ctrsource.new ctrtarget.new ctrdata.new) }
+#[tactic(auto, unfolding(crate::specs::Rows::row_by, crate::specs::Rows::row_of))]
+fn run_other(entries: &mut Entries, r: Registers, x: Words) -> Option<Answered>
+    requires { is_retired_head x.zero ≡ false }
+    ensures { row_run_of (state_of r entries.old) (row_of x.zero x.one x.two x.three) ≡ row_ran r result entries.new }
 {
-    match kind {
-        0 => malformed(r),
-        1 => run_trap(ctrsource, ctrtarget, ctrdata, r, w, a, b, c),
-        2 => run_return(ctrsource, ctrtarget, ctrdata, r, w, a, b, c),
-        3 => run_access(ctrsource, ctrtarget, ctrdata, r, w, a, b, c),
-        4 => run_sctrclr(ctrsource, ctrtarget, ctrdata, r, w, a, b, c),
-        5 => run_host(ctrsource, ctrtarget, ctrdata, r, w, a, b, c),
-        _ => malformed(r),
+    match x.kind() {
+        1 => run_trap(entries, r, x),
+        2 => run_return(entries, r, x),
+        3 => run_access(entries, r, x),
+        4 => run_sctrclr(entries, r, x),
+        5 => run_host(entries, r, x),
+        _ => None,
     }
 }
 
-fn is_retired_kind(w: u64) -> bool
-    ensures { result ≡ eqb (w % 2 ^ 8) 0 }
+#[tactic(auto, unfolding(crate::specs::Runs::is_retired_head))]
+fn is_retired_head(x: Words) -> bool
+    ensures { result ≡ is_retired_head x.zero }
 {
-    is_zero(bits::low(w, 8))
-}
-
-fn is_retired_head(w: u64) -> bool
-    ensures { result ≡ is_retired_head w }
-{
-    if is_retired_kind(w) {
-        head_below(w, RETIRED_LIMIT)
-    } else {
-        false
-    }
+    x.kind() == 0 && x.head_below(RETIRED_LIMIT)
 }
 
 // Most rows are retired words: they are looked for first, and what number 5 is about is not looked at again for
 // each of them.
-fn run_words(
-    ctrsource: &mut [u64; ENTRIES],
-    ctrtarget: &mut [u64; ENTRIES],
-    ctrdata: &mut [u64; ENTRIES],
-    r: Registers,
-    good: bool,
-    w: u64,
-    a: u64,
-    b: u64,
-    c: u64,
-) -> RowRan
+fn run_words(entries: &mut Entries, r: Registers, good: bool, x: Words) -> Option<Answered>
     requires { good ≡ good_of r }
-    ensures { row_run_of (state_of r (entries_of ctrsource.old ctrtarget.old ctrdata.old)) (row_of w a b c) ≡ row_ran result (entries_of ctrsource.new ctrtarget.new ctrdata.new) }
+    ensures { row_run_of (state_of r entries.old) (row_of x.zero x.one x.two x.three) ≡ row_ran r result entries.new }
 {
-    if is_retired_head(w) {
-        run_retired(ctrsource, ctrtarget, ctrdata, r, good, w, a, b, c)
+    if is_retired_head(x) {
+        run_retired(entries, r, good, x)
     } else {
-        run_by(
-            ctrsource,
-            ctrtarget,
-            ctrdata,
-            r,
-            bits::low(w, 8),
-            w,
-            a,
-            b,
-            c,
-        )
+        run_other(entries, r, x)
     }
 }
 
 // Row i of a trace.
+#[tactic(auto, unfolding(crate::specs::Runs::row_at))]
 fn run_row(
-    ctrsource: &mut [u64; ENTRIES],
-    ctrtarget: &mut [u64; ENTRIES],
-    ctrdata: &mut [u64; ENTRIES],
+    entries: &mut Entries,
     r: Registers,
     good: bool,
     rows: &[u64],
     i: usize,
-) -> RowRan
+) -> Option<Answered>
     requires place { 4 * i + 3 < length rows.now }
     requires found { good ≡ good_of r }
-    ensures { row_run_of (state_of r (entries_of ctrsource.old ctrtarget.old ctrdata.old)) (row_at rows.now i) ≡ row_ran result (entries_of ctrsource.new ctrtarget.new ctrdata.new) }
+    ensures { row_run_of (state_of r entries.old) (row_at rows.now i) ≡ row_ran r result entries.new }
 {
-    run_words(
-        ctrsource,
-        ctrtarget,
-        ctrdata,
-        r,
-        good,
-        rows[4 * i],
-        rows[4 * i + 1],
-        rows[4 * i + 2],
-        rows[4 * i + 3],
-    )
+    let x = Words {
+        zero: rows[4 * i],
+        one: rows[4 * i + 1],
+        two: rows[4 * i + 2],
+        three: rows[4 * i + 3],
+    };
+    run_words(entries, r, good, x)
 }
 
 // The answer to event i.
@@ -315,9 +180,7 @@ fn apart(r: Registers) -> Registers
 
 // All n rows, up to one that is malformed, with room for their answers.
 fn run_rows(
-    ctrsource: &mut [u64; ENTRIES],
-    ctrtarget: &mut [u64; ENTRIES],
-    ctrdata: &mut [u64; ENTRIES],
+    entries: &mut Entries,
     r: Registers,
     good: bool,
     rows: &[u64],
@@ -327,27 +190,23 @@ fn run_rows(
     requires rows { 4 * n ≤ length rows.now }
     requires room { 2 * n ≤ length answers.old }
     requires found { good ≡ good_of r }
-    ensures { ran_of (state_of r (entries_of ctrsource.old ctrtarget.old ctrdata.old)) rows.now answers.old n ≡ ran_to result (entries_of ctrsource.new ctrtarget.new ctrdata.new) answers.new }
+    ensures { ran_of (state_of r entries.old) rows.now answers.old n ≡ ran_to result entries.new answers.new }
 {
     let mut registers = apart(r);
-    let mut i: usize = 0;
-    while i < n {
-        let row = run_row(ctrsource, ctrtarget, ctrdata, registers, good, rows, i);
-        let next = row.registers;
-        if !row.well_formed {
+    for i in 0..n {
+        let Some(row) = run_row(entries, registers, good, rows, i) else {
             return Ran {
                 number: 9,
                 count: i,
-                registers: next,
+                registers,
             };
-        }
+        };
         answer(answers, i, row.number, row.value);
-        registers = apart(next);
-        i += 1;
+        registers = apart(row.registers);
     }
     Ran {
         number: 0,
-        count: i,
+        count: n,
         registers,
     }
 }
@@ -356,33 +215,28 @@ fn run_rows(
 // a length that is no multiple of four, else 7 for too few answer words, else 9 if a row is malformed, else
 // 0; answer words past the count of events stay as lent.
 pub fn replay_in_place(
-    ctrsource: &mut [u64; ENTRIES],
-    ctrtarget: &mut [u64; ENTRIES],
-    ctrdata: &mut [u64; ENTRIES],
+    entries: &mut Entries,
     r: Registers,
     rows: &[u64],
     answers: &mut [u64],
 ) -> Ran
-    ensures { replay_of (state_of r (entries_of ctrsource.old ctrtarget.old ctrdata.old)) rows.now answers.old ≡ ran_to result (entries_of ctrsource.new ctrtarget.new ctrdata.new) answers.new }
+    ensures { replay_of (state_of r entries.old) rows.now answers.old ≡ ran_to result entries.new answers.new }
 {
     let n = rows.len() / 4;
-    if rows.len() % 4 == 0 {
-        if answers.len() / 2 < n {
-            Ran {
-                number: 7,
-                count: 0,
-                registers: r,
-            }
-        } else {
-            let good = is_good(r);
-            run_rows(ctrsource, ctrtarget, ctrdata, r, good, rows, answers, n)
-        }
-    } else {
+    if rows.len() % 4 != 0 {
         Ran {
             number: 6,
             count: 0,
             registers: r,
         }
+    } else if answers.len() / 2 < n {
+        Ran {
+            number: 7,
+            count: 0,
+            registers: r,
+        }
+    } else {
+        run_rows(entries, r, is_good(r), rows, answers, n)
     }
 }
 
@@ -391,24 +245,11 @@ pub fn replay(s: State, rows: &[u64], answers: &mut [u64]) -> Replayed
     ensures answers_value { replay_of s rows.now answers.old ≡ replayed result answers.new }
     ensures whole { Whole result.state }
 {
-    let mut ctrsource = s.ctrsource;
-    let mut ctrtarget = s.ctrtarget;
-    let mut ctrdata = s.ctrdata;
-    let r = s.registers;
-    let q = replay_in_place(
-        &mut ctrsource,
-        &mut ctrtarget,
-        &mut ctrdata,
-        r,
-        rows,
-        answers,
-    );
-    let registers = q.registers;
+    let mut entries = s.entries;
+    let q = replay_in_place(&mut entries, s.registers, rows, answers);
     let state = State {
-        registers,
-        ctrsource,
-        ctrtarget,
-        ctrdata,
+        registers: q.registers,
+        entries,
     };
     Replayed {
         number: q.number,

@@ -3,17 +3,17 @@
 // The gate compares it with what the model prints.
 #![tactic(auto)]
 
-use machine::{CsrAccess, Enables, Event, RetiredWord, ReturnTo, TrapTo};
+use machine::Event;
 use std::io;
-use std::num::wrapping_add_u64;
 use sweep_support::lines::{put_count, put_counts, put_word};
-use test_support::digest;
-use trace::Row;
-use trace::codes::{flag, mode_code, operation_code};
+use test_support::{count, count_at, digest, digest_words};
+use text::Page;
+use trace::Malformed;
+use trace::codes::{mode_code, operation_code};
 use trace::rows::decode;
 
 // What was seen: rows, events by kind, malformed rows by word, and the digest.
-#[derive(Drop)]
+#[derive(Default, Drop)]
 struct Tally {
     rows: u64,
     kinds: [u64; 6],
@@ -37,50 +37,38 @@ const FIRST: [u64; 8] = [
 // Words 2 and 3.
 const OTHER: [u64; 3] = [0, 1, 0xFFFF_FFFF_FFFF_FFFF];
 
-fn digest_retired(h: u64, w: RetiredWord) -> u64 {
-    let d = digest(digest(h, w.word as u64), w.pc);
-    let f = digest(
-        digest(digest(d, w.target), flag(w.taken)),
-        flag(w.mispredicted),
-    );
-    digest(f, w.cycles as u64)
-}
-
-fn digest_trap(h: u64, t: TrapTo) -> u64 {
-    let m = t.mode;
-    let d = digest(digest(h, mode_code(m)), flag(t.interrupt));
-    digest(
-        digest(digest(digest(d, t.cause), t.epc), t.handler),
-        t.cycles as u64,
-    )
-}
-
-fn digest_return(h: u64, t: ReturnTo) -> u64 {
-    let m = t.mode;
-    digest(
-        digest(digest(digest(h, mode_code(m)), t.pc), t.target),
-        t.cycles as u64,
-    )
-}
-
-fn digest_access(h: u64, a: CsrAccess) -> u64 {
-    let o = a.operation;
-    digest(digest(digest(h, operation_code(o)), a.number), a.operand)
-}
-
-fn digest_host(h: u64, e: Enables) -> u64 {
-    digest(digest(h, flag(e.mstateen0)), flag(e.hstateen0))
-}
-
 // The digest h with the data of an event taken in.
 fn digest_data(h: u64, e: Event) -> u64 {
     match e {
-        Event::Retired(w) => digest_retired(h, w),
-        Event::Trap(t) => digest_trap(h, t),
-        Event::TrapReturn(t) => digest_return(h, t),
-        Event::Access(a) => digest_access(h, a),
+        Event::Retired(w) => digest_words(
+            h,
+            &[
+                u64::from(w.word),
+                w.pc,
+                w.target,
+                u64::from(w.taken),
+                u64::from(w.mispredicted),
+                u64::from(w.cycles),
+            ],
+        ),
+        Event::Trap(t) => digest_words(
+            h,
+            &[
+                mode_code(t.mode),
+                u64::from(t.interrupt),
+                t.cause,
+                t.epc,
+                t.handler,
+                u64::from(t.cycles),
+            ],
+        ),
+        Event::TrapReturn(t) => digest_words(
+            h,
+            &[mode_code(t.mode), t.pc, t.target, u64::from(t.cycles)],
+        ),
+        Event::Access(a) => digest_words(h, &[operation_code(a.operation), a.number, a.operand]),
         Event::Sctrclr => h,
-        Event::Host(x) => digest_host(h, x),
+        Event::Host(x) => digest_words(h, &[u64::from(x.mstateen0), u64::from(x.hstateen0)]),
     }
 }
 
@@ -95,94 +83,52 @@ fn kind_of(e: Event) -> u64 {
     }
 }
 
-fn with_event(t: Tally, e: Event) -> Tally {
-    let mut next = t;
-    let kind = kind_of(e);
-    let k = kind as usize;
-    if k < 6 {
-        next.kinds[k] = wrapping_add_u64(next.kinds[k], 1);
+impl Tally {
+    fn add_event(&mut self, e: Event) {
+        let kind = kind_of(e);
+        count_at(&mut self.kinds, kind);
+        self.digest = digest_data(digest(self.digest, kind), e);
     }
-    next.digest = digest_data(digest(next.digest, kind), e);
-    next
-}
 
-fn with_broken(t: Tally, word: u64) -> Tally {
-    let mut next = t;
-    let k = word as usize;
-    if k < 4 {
-        next.broken[k] = wrapping_add_u64(next.broken[k], 1);
+    fn add_broken(&mut self, m: Malformed) {
+        let word = u64::from(m);
+        count_at(&mut self.broken, word);
+        self.digest = digest_words(self.digest, &[6, word]);
     }
-    next.digest = digest(digest(next.digest, 6), word);
-    next
-}
 
-fn with_row(t: Tally, head: u64, a: u64, b: u64, c: u64) -> Tally {
-    let mut next = t;
-    next.rows = wrapping_add_u64(next.rows, 1);
-    match decode(head, a, b, c) {
-        Row::WellFormed(e) => with_event(next, e),
-        Row::Malformed(word) => with_broken(next, word),
+    fn add_row(&mut self, head: u64, a: u64, b: u64, c: u64) {
+        count(&mut self.rows, true);
+        match decode(head, a, b, c) {
+            Ok(e) => self.add_event(e),
+            Err(m) => self.add_broken(m),
+        }
     }
-}
 
-// All rows that begin with three words.
-fn with_words(t: Tally, head: u64, a: u64, b: u64) -> Tally {
-    let mut next = t;
-    for k in 0..3 {
-        next = with_row(next, head, a, b, OTHER[k]);
+    // All rows that begin with a word.
+    fn add_head(&mut self, head: u64) {
+        for a in FIRST {
+            for b in OTHER {
+                for c in OTHER {
+                    self.add_row(head, a, b, c);
+                }
+            }
+        }
     }
-    next
-}
-
-// All rows that begin with two words.
-fn with_pair(t: Tally, head: u64, a: u64) -> Tally {
-    let mut next = t;
-    for k in 0..3 {
-        next = with_words(next, head, a, OTHER[k]);
-    }
-    next
-}
-
-// All rows that begin with a word.
-fn with_head(t: Tally, head: u64) -> Tally {
-    let mut next = t;
-    for k in 0..8 {
-        next = with_pair(next, head, FIRST[k]);
-    }
-    next
-}
-
-// A bit of the first word, under the kinds there are and the next.
-fn with_bit(t: Tally, bit: u64) -> Tally {
-    let mut next = t;
-    for kind in 0u64..7 {
-        next = with_head(next, bit | kind);
-    }
-    next
-}
-
-// All settings of the lower bits under an upper half.
-fn with_lower(t: Tally, upper: u64) -> Tally {
-    let mut next = t;
-    for head in 0u64..0x2000 {
-        next = with_head(next, upper | head);
-    }
-    next
 }
 
 // Every kind under all settings of the bits that are named in the lower half and one more, with the upper
-// half all zeros and all ones; and every single bit above.
+// half all zeros and all ones; and every single bit above, under the kinds there are and the next.
 fn all_rows() -> Tally {
-    let mut t = Tally {
-        rows: 0,
-        kinds: [0; 6],
-        broken: [0; 4],
-        digest: 0,
-    };
-    t = with_lower(t, 0);
-    t = with_lower(t, 0xFFFF_FFFF_0000_0000);
+    let mut t = Tally::default();
+    for upper in [0, 0xFFFF_FFFF_0000_0000] {
+        for lower in 0u64..0x2000 {
+            t.add_head(upper | lower);
+        }
+    }
     for place in 13u64..64 {
-        t = with_bit(t, 1u64 << place);
+        for kind in 0u64..7 {
+            t.add_head(1 << place | kind);
+        }
     }
     t
 }
@@ -190,12 +136,11 @@ fn all_rows() -> Tally {
 fn main(rt: HostRuntime) {
     let t = all_rows();
     let mut out = [0u8; 1024];
-    let mut at = text::put(&mut out, 0, b"rows\n");
-    at = put_count(&mut out, at, b"  rows ", t.rows);
-    let kinds = t.kinds;
-    let broken = t.broken;
-    at = put_counts(&mut out, at, b"  kind ", &kinds);
-    at = put_counts(&mut out, at, b"  broken in word ", &broken);
-    at = put_word(&mut out, at, b"  digest 0x", t.digest);
-    console::write(&mut io::writer(&rt), text::before(&out, at));
+    let mut page = Page::new(&mut out);
+    page.put(b"rows\n");
+    put_count(&mut page, b"  rows ", t.rows);
+    put_counts(&mut page, b"  kind ", &t.kinds);
+    put_counts(&mut page, b"  broken in word ", &t.broken);
+    put_word(&mut page, b"  digest 0x", t.digest);
+    console::write(&mut io::writer(&rt), page.text());
 }

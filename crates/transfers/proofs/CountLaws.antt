@@ -1,13 +1,13 @@
 -- The top bit of a count, and its coding, once over the exponent. Assumes nothing.
-use Prim.Native.Nat.{ℕ, suc, ◌+◌, ◌-◌, ◌*◌, ◌/◌, ◌%◌, ◌^◌, ◌≤◌, ◌<◌}
+use Prim.Native.Nat.{ℕ, suc, ◌+◌, ◌-◌, ◌*◌, ◌/◌, ◌^◌, ◌≤◌, ◌<◌}
 use mathlib.Core.Path.{◌≡◌, refl, subst, ◌∙◌}
 use mathlib.Core.Bool.{Bool, true, false}
 use native.Mathlib.Nat.{mod-lt, lt_of_not-le}
 use native.Mathlib.Omega.{arith}
 use lib.Count.{count_leading_zeros, leading_top}
 use lib.Dec.{ltb}
-use lib.Pow.{pow_pos, pow_mono, pow-add, shr_lt, shr_mono, shl-shr, shl_exact, split}
-use borrow.Author.Tests.{lt-ltb, le-ltb, ltb-true, ltb-false, eq-eqb, ne_eqb}
+use lib.Pow.{pow_pos, pow_mono, pow-add, shr_lt, shr_mono, shl-shr, split}
+use borrow.Author.Tests.{lt-ltb, le-ltb, ltb-true, ltb-false, ne_eqb}
 use Rattle.std.specs.Prelude.{if◌then◌else◌}
 use Rattle.bits.specs.Words.{field_at}
 use Rattle.machine.specs.Good.{counter_limit}
@@ -35,12 +35,18 @@ top n p h =
 pub powers_lt : (a b : ℕ) {n : ℕ} → 2 ^ a ≤ n → n < 2 ^ b → a < b
 powers_lt a b l h = lt_of_not-le (λ q. omega (arith, pow_mono q, l, h))
 
+-- the exponent of the power of two that a number reaches, and of which it does not reach the double
+pub top_is : (n r : ℕ) → 2 ^ r ≤ n → n < 2 * 2 ^ r → n < 2 ^ 64 → r ≡ top_bit n
+top_is n r l d h =
+    let t = top n (omega (arith, l, pow_pos r)) h in
+    omega (arith, powers_lt r (top_bit n + 1) l t.passes, powers_lt (top_bit n) (r + 1) t.reaches (omega (arith, d, pow-add 2 r 1)))
+
 -- from 2^12 up the top bit is bit 12 or above
-pub top_ge : (n : ℕ) → 2 ^ 12 ≤ n → n < 2 ^ 64 → (12 ≤ top_bit n) × (count_leading_zeros 64 n ≤ 51)
+pub top_ge : (n : ℕ) → 2 ^ 12 ≤ n → n < 2 ^ 64 → 12 ≤ top_bit n
 top_ge n l h =
     let t = top n (omega (arith, l)) h in
     let p = powers_lt 12 (top_bit n + 1) l t.passes in
-    (omega (arith, p), omega (arith, p))
+    omega (arith, p)
 
 -- the exponent and the code of a short count and of a long one
 pub short_exponent : (n : ℕ) → n < 2 ^ 12 → exponent_of n ≡ 0
@@ -104,7 +110,7 @@ coding n h = go (ltb n (2 ^ 12)) refl
     long l =
         let fits : n < 2 ^ 64 = omega (arith, h) in
         let t = top n (omega (arith, l)) fits in
-        let g = (top_ge n l fits).0 in
+        let g = top_ge n l fits in
         let k : ℕ = top_bit n - 12 in
         let e : exponent_of n ≡ k + 1 = long_exponent n l ∙ omega (arith, g) in
         let z : k + 1 - 1 ≡ k = omega arith in
@@ -139,11 +145,4 @@ pub ccv_le : (ccv : Bool) → (if ccv then 2 ^ 15 else 0) ≤ 2 ^ 15
 ccv_le true = omega arith
 ccv_le false = omega arith
 
--- what decoding computes: of an exponent 0 the mantissa, else a shift that loses nothing
-pub decode_short : (cce ccm : ℕ) → cce ≡ 0 → ccm ≡ decoded_of cce ccm
-unfolding decoded_of
-decode_short cce ccm e = rw (eq-eqb cce 0 e)
-
-pub decode_long : (cce ccm : ℕ) → (cce ≡ 0 → ⊥) → cce < 16 → ccm < 2 ^ 12 → (2 ^ 12 + ccm) * 2 ^ (cce - 1) % 2 ^ 64 ≡ decoded_of cce ccm
-unfolding decoded_of
-decode_long cce ccm e l m = rw (ne_eqb cce 0 e) (shl_exact 13 (cce - 1) 64 (omega (arith, m)) (omega (arith, l)))
+pub ruleset bounds = (cc_lt, ccv_le)

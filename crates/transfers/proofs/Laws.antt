@@ -1,7 +1,7 @@
 -- What `Hidden` and `StaysGood` state. Assumes nothing.
 use mathlib.Core.Bool.{Bool, true, false}
 use Prim.Native.Nat.{ℕ, ◌+◌, ◌-◌, ◌%◌, min}
-use mathlib.Core.Path.{◌≡◌, refl, ◌∙◌}
+use mathlib.Core.Path.{◌≡◌, refl}
 use native.Mathlib.Nat.{mod-lt}
 use native.Mathlib.Omega.{arith}
 use lib.Dec.{ltb}
@@ -17,13 +17,13 @@ use Rattle.machine.specs.declared.Mode.{Mode}
 use Rattle.machine.specs.declared.Registers.{Registers}
 use Rattle.machine.specs.declared.Entry.{Entry}
 use Rattle.machine.specs.declared.Decision.{Decision}
-use Rattle.machine.specs.declared.Verdict.TheVariants.{ChangeNotPossible}
+use Rattle.machine.specs.declared.Refusal.TheVariants.{ChangeNotPossible}
 use Rattle.qualifying.specs.Changes.{possible_trap, possible_return}
 use Rattle.transfers.specs.Counts.{live_cycles, cycles_of, tallied}
 use Rattle.transfers.specs.Records.{side_pc, advanced, retreated}
 use Rattle.qualifying.specs.Filters.{freezes_of}
 use Rattle.qualifying.specs.Outcomes.{rasemu_of, live_of, retired_outcome, trap_outcome}
-use Rattle.transfers.specs.Transfers.{done_of, retired_of, in_mode, crossing, crossed_of, taken_trap, trap_of, taken_return, return_of}
+use Rattle.transfers.specs.Transfers.{done_of, retired_of, crossing, crossed_of, taken_trap, trap_of, taken_return, return_of}
 use Rattle.transfers.specs.Laws.{Hidden, StaysGood}
 use Rattle.machine.specs.declared.Outcome.{Outcome}
 use Rattle.machine.specs.declared.Outcome.TheVariants.{Nothing, Record, Pop, Swap, Freeze}
@@ -101,10 +101,3 @@ stays_good r old =
           let q = parts r h in
           whole _ (good_change (possible_return r.mode t.mode) r (taken_return r old t) q (good_crossed r old _ _ _ _ q)));
     }
-
--- a possible trap or return, put together from what its calls give
-pub crossed : (r q : Registers) (old e x : Entry) (m : Mode) (n : ℕ) (ra : Bool) (o p : Outcome) (d f : Decision)
-    → e ≡ x → ra ≡ rasemu_of r r.mode m → q ≡ tallied r ra n → o ≡ p → d ≡ done_of q old e ra o → f ≡ in_mode d m
-    → f ≡ crossed_of r old m n x p
-unfolding crossed_of
-crossed r q old e x m n ra o p d f u v w z g h = h ∙ rw (g, w, z, u, v)

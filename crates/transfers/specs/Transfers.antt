@@ -12,7 +12,7 @@ use Rattle.machine.specs.declared.Decision.{Decision}
 use Rattle.machine.specs.declared.RetiredWord.{RetiredWord}
 use Rattle.machine.specs.declared.TrapTo.{TrapTo}
 use Rattle.machine.specs.declared.ReturnTo.{ReturnTo}
-use Rattle.machine.specs.declared.Verdict.TheVariants.{ChangeNotPossible}
+use Rattle.machine.specs.declared.Refusal.TheVariants.{ChangeNotPossible}
 use Rattle.qualifying.specs.Changes.{possible_trap, possible_return}
 use Rattle.transfers.specs.Counts.{restarted, tallied, stamped}
 use Rattle.transfers.specs.Records.{entry_for, side_pc, popped, advanced, retreated}

@@ -14,16 +14,7 @@ use qualifying::outcomes::is_live;
 fn capped_sum(x: u64, n: u32) -> u64
     ensures { result ≡ min (x + n) (counter_limit - 1) }
 {
-    if x < COUNTER_LIMIT {
-        let y = x + n as u64;
-        if y < COUNTER_LIMIT {
-            y
-        } else {
-            COUNTER_LIMIT - 1
-        }
-    } else {
-        COUNTER_LIMIT - 1
-    }
+    x.saturating_add(u64::from(n)).min(COUNTER_LIMIT - 1)
 }
 
 // The counter with the cycles of an event.
@@ -32,7 +23,7 @@ fn count(c: Cycles, n: u32) -> Cycles
 {
     Cycles {
         counter: capped_sum(c.counter, n),
-        ccv: c.ccv,
+        ..c
     }
 }
 
@@ -47,6 +38,7 @@ pub fn restart(rasemu: bool) -> Cycles
 }
 
 // The counter as an event with n cycles finds it where recording is live.
+#[tactic(auto, unfolding(crate::specs::Counts::live_cycles))]
 fn live_cycles(c: Cycles, rasemu: bool, n: u32) -> Cycles
     ensures { result ≡ live_cycles c rasemu n }
 {
@@ -54,14 +46,14 @@ fn live_cycles(c: Cycles, rasemu: bool, n: u32) -> Cycles
 }
 
 // The same where it is live or not.
+#[tactic(auto, unfolding(crate::specs::Counts::cycles_of))]
 fn cycles_of(r: Registers, rasemu: bool, n: u32) -> Cycles
     ensures { result ≡ cycles_of r rasemu n }
 {
-    let c = r.cycles;
     if is_live(r) {
-        live_cycles(c, rasemu, n)
+        live_cycles(r.cycles, rasemu, n)
     } else {
-        c
+        r.cycles
     }
 }
 
@@ -69,8 +61,7 @@ fn cycles_of(r: Registers, rasemu: bool, n: u32) -> Cycles
 pub fn tally_live(r: Registers, rasemu: bool, n: u32) -> Registers
     ensures { result ≡ with_cycles r (live_cycles r.cycles rasemu n) }
 {
-    let c = r.cycles;
-    with_cycles(r, live_cycles(c, rasemu, n))
+    with_cycles(r, live_cycles(r.cycles, rasemu, n))
 }
 
 // The same where it is live or not.
@@ -80,24 +71,27 @@ pub fn tally(r: Registers, rasemu: bool, n: u32) -> Registers
     with_cycles(r, cycles_of(r, rasemu, n))
 }
 
-// The exponent of a count from 2^12 up: its top bit's index, which is 63 less its leading zeros, minus 11.
+// The exponent of a count from 2^12 up: its top bit's index minus 11.
+#[tactic(auto, using(crate::proofs::CountLaws::top_is, crate::proofs::CountLaws::top_ge))]
 fn long_exponent(n: u64) -> u32
     requires { 2 ^ 12 ≤ n }
     ensures { result ≡ top_bit n - 11 }
 {
-    63 - u64::leading_zeros(n) - 11
+    n.ilog2() - 11
 }
 
 // Such a count, coded.
+#[tactic(auto, using(crate::proofs::CountLaws::long_cc, crate::proofs::CountLaws::top_ge))]
 fn long_cc(n: u64) -> u64
     requires { 2 ^ 12 ≤ n }
     ensures { result ≡ cc_of n }
 {
     let e = long_exponent(n);
-    e as u64 * 0x1000 + bits::field64(n, e - 1, 12)
+    u64::from(e) * 0x1000 + bits::field64(n, e - 1, 12)
 }
 
 // A count, coded: the exponent above the twelve bits of the mantissa.
+#[tactic(auto, using(crate::proofs::CountLaws::short_cc))]
 fn cc(n: u64) -> u64
     ensures { result ≡ cc_of n }
 {
@@ -111,17 +105,18 @@ fn ccv_bit(ccv: bool) -> u64
 }
 
 // A record with the counter beside its type.
+#[tactic(auto, using(crate::proofs::CountLaws::bounds), unfolding(crate::specs::Counts::stamped))]
 pub fn stamp(e: Entry, c: Cycles) -> Entry
     ensures { result ≡ stamped e c }
 {
     Entry {
-        ctrsource: e.ctrsource,
-        ctrtarget: e.ctrtarget,
         ctrdata: bits::low(e.ctrdata, 4) + ccv_bit(c.ccv) + cc(c.counter) * 0x1_0000,
+        ..e
     }
 }
 
 // The count that an exponent and a mantissa stand for.
+#[tactic(auto, unfolding(crate::specs::Counts::decoded_of))]
 fn decoded_by(cce: u64, ccm: u64) -> u64
     requires exponent { cce < 16 }
     requires mantissa { ccm < 2 ^ 12 }
@@ -135,6 +130,7 @@ fn decoded_by(cce: u64, ccm: u64) -> u64
 }
 
 // The count in ctrdata.
+#[tactic(auto, unfolding(crate::specs::Counts::decoded_in))]
 pub fn decoded(ctrdata: u64) -> u64
     ensures { result ≡ decoded_in ctrdata }
 {

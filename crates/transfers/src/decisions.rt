@@ -1,22 +1,19 @@
 // What an outcome does, and what a trap and a trap return decide.
 ghost use Rattle.std.specs.Prelude.{◌≡◌};
-ghost use Rattle.machine.specs.Answers.{value_of, accepted, accepted_put};
-ghost use Rattle.machine.specs.Regs.{with_frozen, with_cycles};
-ghost use Rattle.qualifying.specs.Outcomes.{trap_type};
-ghost use Rattle.transfers.specs.Counts.{restarted, stamped};
-ghost use Rattle.transfers.specs.Records.{popped, advanced, retreated};
-ghost use Rattle.transfers.specs.Transfers.{outcome_focus, done_of, in_mode, crossing, taken_trap, trap_of, taken_return, return_of};
+ghost use Rattle.transfers.specs.Transfers.{outcome_focus, done_of, in_mode, crossing, crossed_of, taken_trap, trap_of, taken_return, return_of};
 
 use crate::counts::{restart, stamp, tally};
 use crate::records::{advance, entry_for, pop, retreat, side_pc};
 use machine::answers::{accept, accept_put, refuse, value};
 use machine::depths::{physical, wrapped};
 use machine::regs::{with_cycles, with_frozen, with_mode};
-use machine::{Decision, Entry, Mode, Outcome, Registers, ReturnTo, TrapTo, Verdict};
+use machine::{Decision, Entry, Mode, Outcome, Refusal, Registers, ReturnTo, TrapTo};
 use qualifying::changes::{possible_return, possible_trap};
 use qualifying::outcomes::{RETURN_TYPE, rasemu, return_outcome, trap_outcome, trap_type};
 
 // The physical entry that an outcome is about.
+// With an arm for each variant it runs as one branch with `done`, which saves a retired word ten instructions.
+#[tactic(auto, unfolding(crate::specs::Transfers::outcome_focus))]
 pub fn focus(r: Registers, o: Outcome) -> u64
     ensures { result ≡ outcome_focus r.buffer o }
 {
@@ -29,52 +26,22 @@ pub fn focus(r: Registers, o: Outcome) -> u64
     }
 }
 
-fn record(r: Registers, e: Entry, rasemu: bool) -> Decision
-    ensures { result ≡ accepted_put (with_cycles (advanced r) (restarted rasemu)) (value_of Outcome.Record) (stamped e r.cycles) }
-{
-    let c = r.cycles;
-    accept_put(
-        with_cycles(advance(r), restart(rasemu)),
-        value(Outcome::Record),
-        stamp(e, c),
-    )
-}
-
-fn pop_newest(r: Registers, old: Entry) -> Decision
-    ensures { result ≡ accepted_put (retreated r) (value_of Outcome.Pop) (popped old) }
-{
-    accept_put(retreat(r), value(Outcome::Pop), pop(old))
-}
-
-fn swap(r: Registers, e: Entry) -> Decision
-    ensures { result ≡ accepted_put r (value_of Outcome.Swap) e }
-{
-    accept_put(r, value(Outcome::Swap), e)
-}
-
-fn freeze(r: Registers) -> Decision
-    ensures { result ≡ accepted (with_frozen r) (value_of Outcome.Freeze) }
-{
-    accept(with_frozen(r), value(Outcome::Freeze))
-}
-
-fn nothing(r: Registers) -> Decision
-    ensures { result ≡ accepted r (value_of Outcome.Nothing) }
-{
-    accept(r, value(Outcome::Nothing))
-}
-
 // An outcome done, from registers with the counter as the event finds it, with the entry in focus and the
 // record e that it would put.
+#[tactic(auto, unfolding(crate::specs::Transfers::done_of))]
 pub fn done(r: Registers, old: Entry, e: Entry, rasemu: bool, o: Outcome) -> Decision
     ensures { result ≡ done_of r old e rasemu o }
 {
     match o {
-        Outcome::Nothing => nothing(r),
-        Outcome::Record => record(r, e, rasemu),
-        Outcome::Pop => pop_newest(r, old),
-        Outcome::Swap => swap(r, e),
-        Outcome::Freeze => freeze(r),
+        Outcome::Nothing => accept(r, value(Outcome::Nothing)),
+        Outcome::Record => accept_put(
+            with_cycles(advance(r), restart(rasemu)),
+            value(Outcome::Record),
+            stamp(e, r.cycles),
+        ),
+        Outcome::Pop => accept_put(retreat(r), value(Outcome::Pop), pop(old)),
+        Outcome::Swap => accept_put(r, value(Outcome::Swap), e),
+        Outcome::Freeze => accept(with_frozen(r), value(Outcome::Freeze)),
     }
 }
 
@@ -82,80 +49,71 @@ pub fn done(r: Registers, old: Entry, e: Entry, rasemu: bool, o: Outcome) -> Dec
 fn in_mode(d: Decision, m: Mode) -> Decision
     ensures { result ≡ in_mode d m }
 {
-    let r = d.registers;
-    let effect = d.effect;
     Decision {
-        number: d.number,
-        value: d.value,
-        registers: with_mode(r, m),
-        effect,
+        registers: with_mode(d.registers, m),
+        ..d
     }
 }
 
 // The record of a trap or return.
+#[tactic(auto, unfolding(crate::specs::Transfers::crossing))]
 fn crossed(r: Registers, target: Mode, source_pc: u64, target_pc: u64, number: u64) -> Entry
     ensures { result ≡ crossing r target source_pc target_pc number }
 {
-    let m = r.mode;
     entry_for(
-        side_pc(r, m, source_pc),
+        side_pc(r, r.mode, source_pc),
         side_pc(r, target, target_pc),
         false,
         number,
     )
 }
 
-fn trap_record(r: Registers, t: TrapTo) -> Entry
-    ensures { result ≡ crossing r t.mode t.epc t.handler (trap_type t.interrupt) }
+// A possible trap or return to a mode, with its cycles: its outcome done with the record e, and the mode changed.
+#[tactic(auto, unfolding(crate::specs::Transfers::crossed_of))]
+#[inline(always)]
+fn cross(r: Registers, old: Entry, target: Mode, cycles: u32, e: Entry, o: Outcome) -> Decision
+    ensures { result ≡ crossed_of r old target cycles e o }
 {
-    let m = t.mode;
-    crossed(r, m, t.epc, t.handler, trap_type(t.interrupt))
+    let ra = rasemu(r, r.mode, target);
+    in_mode(done(tally(r, ra, cycles), old, e, ra, o), target)
 }
 
+#[tactic(auto, unfolding(crate::specs::Transfers::taken_trap))]
 fn take_trap(r: Registers, old: Entry, t: TrapTo) -> Decision
     ensures { result ≡ taken_trap r old t }
 {
-    let m = t.mode;
-    let e = trap_record(r, t);
-    let source = r.mode;
-    let ra = rasemu(r, source, m);
-    let q = tally(r, ra, t.cycles);
-    in_mode(done(q, old, e, ra, trap_outcome(r, t)), m)
+    let e = crossed(r, t.mode, t.epc, t.handler, trap_type(t.interrupt));
+    cross(r, old, t.mode, t.cycles, e, trap_outcome(r, t))
 }
 
 // A trap, possible or not. Number 5 is the caller's to look for.
+#[tactic(auto, unfolding(crate::specs::Transfers::trap_of))]
 pub fn trap(r: Registers, old: Entry, t: TrapTo) -> Decision
     ensures { result ≡ trap_of r old t }
 {
-    let m = r.mode;
-    let n = t.mode;
-    if possible_trap(m, n) {
+    if possible_trap(r.mode, t.mode) {
         take_trap(r, old, t)
     } else {
-        refuse(r, Verdict::ChangeNotPossible)
+        refuse(r, Refusal::ChangeNotPossible)
     }
 }
 
+#[tactic(auto, unfolding(crate::specs::Transfers::taken_return))]
 fn take_return(r: Registers, old: Entry, t: ReturnTo) -> Decision
     ensures { result ≡ taken_return r old t }
 {
-    let m = t.mode;
-    let e = crossed(r, m, t.pc, t.target, RETURN_TYPE);
-    let source = r.mode;
-    let ra = rasemu(r, source, m);
-    let q = tally(r, ra, t.cycles);
-    in_mode(done(q, old, e, ra, return_outcome(r, m)), m)
+    let e = crossed(r, t.mode, t.pc, t.target, RETURN_TYPE);
+    cross(r, old, t.mode, t.cycles, e, return_outcome(r, t.mode))
 }
 
 // A trap return, possible or not. Number 5 is the caller's to look for.
+#[tactic(auto, unfolding(crate::specs::Transfers::return_of))]
 pub fn trap_return(r: Registers, old: Entry, t: ReturnTo) -> Decision
     ensures { result ≡ return_of r old t }
 {
-    let m = r.mode;
-    let n = t.mode;
-    if possible_return(m, n) {
+    if possible_return(r.mode, t.mode) {
         take_return(r, old, t)
     } else {
-        refuse(r, Verdict::ChangeNotPossible)
+        refuse(r, Refusal::ChangeNotPossible)
     }
 }

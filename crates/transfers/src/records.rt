@@ -8,6 +8,7 @@ use machine::regs::with_wrptr;
 use machine::{Entry, Mode, Registers};
 
 // The entry of a record.
+#[tactic(auto, unfolding(crate::specs::Records::entry_for))]
 pub fn entry_for(pc: u64, target: u64, misp: bool, number: u64) -> Entry
     ensures { result ≡ entry_for pc target misp number }
 {
@@ -19,6 +20,7 @@ pub fn entry_for(pc: u64, target: u64, misp: bool, number: u64) -> Entry
 }
 
 // The pc of one side of a trap or return.
+#[tactic(auto, unfolding(crate::specs::Records::side_pc))]
 pub fn side_pc(r: Registers, m: Mode, pc: u64) -> u64
     ensures { result ≡ side_pc r m pc }
 {
@@ -26,17 +28,18 @@ pub fn side_pc(r: Registers, m: Mode, pc: u64) -> u64
 }
 
 // An entry without V.
+#[tactic(auto, unfolding(crate::specs::Records::popped))]
 pub fn pop(e: Entry) -> Entry
     ensures { result ≡ popped e }
 {
     Entry {
         ctrsource: bits::clear_bit0(e.ctrsource),
-        ctrtarget: e.ctrtarget,
-        ctrdata: e.ctrdata,
+        ..e
     }
 }
 
 // WRPTR one up.
+#[tactic(auto, using(machine::proofs::DepthLaws::wrapped_lt), unfolding(crate::specs::Records::advanced))]
 pub fn advance(r: Registers) -> Registers
     ensures { result ≡ advanced r }
 {
@@ -47,6 +50,7 @@ pub fn advance(r: Registers) -> Registers
 }
 
 // WRPTR one down.
+#[tactic(auto, unfolding(crate::specs::Records::retreated))]
 pub fn retreat(r: Registers) -> Registers
     ensures { result ≡ retreated r }
 {

@@ -1,9 +1,0 @@
--- `replay_sweep::input::read_words` is safe and ends. Assumes nothing.
-use Rattle.std.proofs.Common.{◌≤◌, ◌-◌}
-use Rattle.replay_sweep.proofs.input.read_words.Given as goal
-
-abbrev pub invariant-loop-i : goal.invariant-loop-i
-invariant-loop-i g l = l.i ≤ 2240
-
-abbrev pub decreases-loop-i : goal.decreases-loop-i
-decreases-loop-i g l = 2240 - l.i
