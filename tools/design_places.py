@@ -55,6 +55,16 @@ def items(kind):
             yield os.path.relpath(path, root), text[:m.start()].count('\n') + 1, m.group(1), re.sub(r'//.*', '', m.group(2))
 
 
+def lines_with(*patterns):
+    """The lines of the code that begin with one of the patterns."""
+    found = []
+    for path in sources('src', '.rt'):
+        for n, l in enumerate(open(path, encoding='utf-8'), 1):
+            if any(re.match(p, l) for p in patterns):
+                found.append(f'{os.path.relpath(path, root)}:{n} {l.strip()}')
+    return found
+
+
 def show(title, found):
     print(f'{title}: {len(found)}')
     if verbose:
@@ -81,12 +91,8 @@ for path, line, name, body in items('struct'):
 show('1b fields that say whether the others count', flags)
 numbers = [at(f) for f in fns if re.search(r'\b(number|kind|group): (u64|u32|u8|usize)', f[3])]
 show('1c functions that take a number for a kind or an answer', numbers)
-sentinels = []
-for path in sources('src', '.rt'):
-    for n, l in enumerate(open(path, encoding='utf-8'), 1):
-        if re.match(r'(pub(\(crate\))? )?const (WHOLE|CLOSED|NONE|NO_\w+)', l) or re.search(r'(Malformed|Refused|Broken)\(\d+\)', l) or re.search(r'^ +number: \d+,', l):
-            sentinels.append(f'{os.path.relpath(path, root)}:{n} {l.strip()}')
-show('1d numbers for refusals, and values that stand for none', sentinels)
+show('1d numbers for refusals, and values that stand for none', lines_with(
+    r'(pub(\(crate\))? )?const (WHOLE|CLOSED|NONE|NO_\w+)', r'.*(Malformed|Refused|Broken)\(\d+\)', r' +number: \d+,'))
 
 # 2
 groups = defaultdict(list)
@@ -109,12 +115,7 @@ if not verbose:
     print(f'  functions in them: {sum(len(v) for v in twins)}')
 
 # 3
-loops = []
-for path in sources('src', '.rt'):
-    for n, l in enumerate(open(path, encoding='utf-8'), 1):
-        if re.match(r' *while ', l) or re.match(r' *for \w+ in [\w:]*0(u\d+)?\.\.', l) or re.match(r' *for \w+ in \w+\.\.', l):
-            loops.append(f'{os.path.relpath(path, root)}:{n} {l.strip()}')
-show('3 loops over an index', loops)
+show('3 loops over an index', lines_with(r' *while ', r' *for \w+ in [\w:]*0(u\d+)?\.\.', r' *for \w+ in \w+\.\.'))
 
 # 4
 tables = []
