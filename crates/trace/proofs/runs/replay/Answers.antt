@@ -6,5 +6,4 @@ pub returns-clause-whole : goal.returns-clause-whole
 returns-clause-whole c =
     -- what the types of the fields of s.entries say of them
     let typed = c.well_formed.0.1.1.1.0.1.1 in
-    whole_after c.args.s _ _ _ c.replay_in_place-q.ensures
-    (record { ctrsource = typed.0.1.0.1; ctrtarget = typed.1.0.1.0.1; ctrdata = typed.1.1.0.1.0.1 })
+    whole_after _ _ _ _ c.replay_in_place-q.ensures (record { ctrsource = search; ctrtarget = search; ctrdata = search })
