@@ -3,13 +3,15 @@
 use mathlib.Core.Path.{◌≡◌, refl, sym, ap, subst, ◌∙◌}
 use mathlib.Core.Bool.{Bool, true, false}
 use mathlib.Core.List.{List, [], ◌∷◌, ◌++◌}
-use Prim.Native.Nat.{ℕ, suc, ◌+◌, ◌≤◌, ◌<◌}
+use Prim.Native.Nat.{ℕ, suc, ◌+◌, ◌-◌, ◌≤◌, ◌<◌}
 use native.Mathlib.Nat.{add-zero, add-suc, suc-add}
 use native.Mathlib.Numerals.{add-one}
 use native.Mathlib.Omega.{arith}
 use lib.Dec.{ltb}
 use lib.ListN.{length, take, drop, set, length-set}
 use lib.Seq.{sets, sets-eq}
+use borrow.Rule.Slice.PartMut.{put_mid}
+use Rattle.std.proofs.lemmas.List.{drop-drop, append_assoc}
 use Rattle.std.proofs.Common.{zero-le}
 use borrow.Author.Tests.{ltb-true, lt-ltb, le-ltb}
 use Rattle.std.specs.Prelude.{if◌then◌else◌}
@@ -94,3 +96,11 @@ written_whole p s h = stored p.at p.bytes s h ∙ ap (page (p.at + length s)) (s
 
 pub written_at : (p : Page) (s : List ℕ) → p.at + length s ≤ length p.bytes → (written p s).at ≡ p.at + length s
 written_at p s h = ap (λ (q : Page). q.at) (written_whole p s h)
+
+-- a text that is copied into its part of the buffer is written
+pub in_part : (n : ℕ) (l r s : List ℕ) → n ≤ length l → length s ≤ length l - n → r ≡ s
+    → page (n + length s) (put_mid n (n + length s - n) l r) ≡ written (page n l) s
+in_part n l r s h k e =
+    let m : n + length s - n ≡ length s = omega arith in
+    let f : n + length s ≤ length l = omega arith in
+    rw (e, m, drop-drop (length s) n l, ← append_assoc (take n l) s (drop (n + length s) l)) (sym (written_whole (page n l) s f))

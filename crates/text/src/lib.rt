@@ -3,7 +3,7 @@
 #![tactic(auto)]
 
 ghost use Rattle.std.specs.Prelude.{◌≡◌, ◌/◌, ◌%◌, ◌^◌, ◌≤◌, ◌<◌, take};
-ghost use Rattle.text.specs.Page.{OneBuffer, empty, shown, with_byte, written};
+ghost use Rattle.text.specs.Page.{OneBuffer, empty, page, shown, with_byte, written};
 ghost use Rattle.text.specs.Digits.{glyph, digits, number, prefix};
 ghost use Rattle.text.specs.Words.{is_same};
 
@@ -23,15 +23,28 @@ impl<'a> Page<'a> {
         Page { bytes, at: 0 }
     }
 
+    // A page that goes on from a place, whatever stands before it.
+    pub fn from_place(bytes: &'a mut [u8], place: usize) -> Page<'a>
+        ensures same_buffer { result.bytes.ghost_name ≡ bytes.entry.ghost_name }
+        ensures there { shown result ≡ page place bytes.old }
+    {
+        Page { bytes, at: place }
+    }
+
+    // The place of the next byte.
+    pub fn place(&self) -> usize
+        ensures { result ≡ (shown self.now).at }
+    {
+        let Page { at, .. } = self;
+        *at
+    }
+
     // One byte.
     pub fn put_byte(&mut self, b: u8)
         ensures same_buffer { OneBuffer self.new self.old }
         ensures put { shown self.new ≡ with_byte (shown self.old) b }
     {
-        if self.at < self.bytes.len() {
-            self.bytes[self.at] = b;
-            self.at += 1;
-        }
+        self.at = byte_at(self.bytes, self.at, b);
     }
 
     // The bytes of s.
@@ -39,9 +52,7 @@ impl<'a> Page<'a> {
         ensures same_buffer { OneBuffer self.new self.old }
         ensures put { shown self.new ≡ written (shown self.old) s.now }
     {
-        for b in s {
-            self.put_byte(*b);
-        }
+        self.at = bytes_at(self.bytes, self.at, s);
     }
 
     // The last `width` digits of x in hexadecimal, in lower case, with zeros in front where x has fewer.
@@ -49,9 +60,7 @@ impl<'a> Page<'a> {
         ensures same_buffer { OneBuffer self.new self.old }
         ensures put { shown self.new ≡ written (shown self.old) (digits 16 width x) }
     {
-        for k in (0..width).rev() {
-            self.put_byte(ascii(hex_digit(x, k)));
-        }
+        self.at = hex_at(self.bytes, self.at, x, width);
     }
 
     // n in decimal, with no zeros in front. 20 digits hold every u64.
@@ -59,7 +68,7 @@ impl<'a> Page<'a> {
         ensures same_buffer { OneBuffer self.new self.old }
         ensures put { shown self.new ≡ written (shown self.old) (number 10 20 n) }
     {
-        self.put_number(n, 10, 20);
+        self.at = number_at(self.bytes, self.at, n, 10, 20);
     }
 
     // n in hexadecimal, in lower case, with 0x and no zeros in front. 16 digits hold every u64.
@@ -68,7 +77,7 @@ impl<'a> Page<'a> {
         ensures put { shown self.new ≡ written (written (shown self.old) prefix) (number 16 16 n) }
     {
         self.put(b"0x");
-        self.put_number(n, 16, 16);
+        self.at = number_at(self.bytes, self.at, n, 16, 16);
     }
 
     // The text so far.
@@ -85,23 +94,68 @@ impl<'a> Page<'a> {
     {
         self.at = 0;
     }
+}
 
-    // n in any base up to 16, with no zeros in front, of at most `most` digits.
-    fn put_number(&mut self, n: u64, base: u64, most: u32)
-        requires { (0 < base) × (base ≤ 16) }
-        ensures same_buffer { OneBuffer self.new self.old }
-        ensures put { shown self.new ≡ written (shown self.old) (number base most n) }
-    {
-        if most == 0 {
-            return;
-        }
-        if n < base {
-            self.put_byte(ascii(n));
-        } else {
-            self.put_number(n / base, base, most - 1);
-            self.put_byte(ascii(n % base));
-        }
+// One byte at a place. Each of the functions `.._at` answers the next place.
+fn byte_at(bytes: &mut [u8], at: usize, b: u8) -> usize
+    ensures { page result bytes.new ≡ with_byte (page at bytes.old) b }
+{
+    if at < bytes.len() {
+        bytes[at] = b;
+        at + 1
+    } else {
+        at
     }
+}
+
+// The bytes of s, all at once where there is room for them.
+fn bytes_at(bytes: &mut [u8], at: usize, s: &[u8]) -> usize
+    ensures { page result bytes.new ≡ written (page at bytes.old) s.now }
+{
+    if at <= bytes.len() && s.len() <= bytes.len() - at {
+        let next = at + s.len();
+        bytes[at..next].copy_from_slice(s);
+        next
+    } else {
+        first_bytes_at(bytes, at, s)
+    }
+}
+
+// The first bytes of s, as many as there is room for.
+fn first_bytes_at(bytes: &mut [u8], at: usize, s: &[u8]) -> usize
+    ensures { page result bytes.new ≡ written (page at bytes.old) s.now }
+{
+    let mut next = at;
+    for b in s {
+        next = byte_at(bytes, next, *b);
+    }
+    next
+}
+
+// The last `width` digits of x in hexadecimal.
+fn hex_at(bytes: &mut [u8], at: usize, x: u64, width: u32) -> usize
+    ensures { page result bytes.new ≡ written (page at bytes.old) (digits 16 width x) }
+{
+    let mut next = at;
+    for k in (0..width).rev() {
+        next = byte_at(bytes, next, ascii(hex_digit(x, k)));
+    }
+    next
+}
+
+// n in any base up to 16, with no zeros in front, of at most `most` digits.
+fn number_at(bytes: &mut [u8], at: usize, n: u64, base: u64, most: u32) -> usize
+    requires { (0 < base) × (base ≤ 16) }
+    ensures { page result bytes.new ≡ written (page at bytes.old) (number base most n) }
+{
+    if most == 0 {
+        return at;
+    }
+    if n < base {
+        return byte_at(bytes, at, ascii(n));
+    }
+    let next = number_at(bytes, at, n / base, base, most - 1);
+    byte_at(bytes, next, ascii(n % base))
 }
 
 // The bytes before a place, or all of them.

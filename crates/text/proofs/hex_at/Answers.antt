@@ -1,12 +1,11 @@
-use mathlib.Core.Path.{refl}
-use Rattle.std.proofs.Common.{rules, ◌≡◌, ◌∙◌, ◌-◌, ◌/◌, ◌%◌, ◌^◌, ◌≤◌, ◌<◌, ℕ}
+use Rattle.std.proofs.Common.{rules, ◌≡◌, ◌-◌, ◌/◌, ◌%◌, ◌^◌, ◌≤◌, ◌<◌, ℕ}
 use native.Mathlib.Nat.{sub_self, sub-zero, div-one}
 use native.Mathlib.Omega.{arith}
 use Rattle.text.specs.Page.{Page, with_byte, written}
 use Rattle.text.specs.Digits.{glyph, digits}
 use Rattle.text.proofs.Pages.{written_byte}
 use Rattle.text.proofs.Digits.{next_digit}
-use Rattle.text.proofs.Page.put_hex.Goals as goal
+use Rattle.text.proofs.hex_at.Goals as goal
 
 -- no digit, one more, and all
 none : (p : Page) (x w : ℕ) → p ≡ written p (digits 16 (w - w) (x / 16 ^ w))
@@ -23,11 +22,11 @@ all p q x w l h e =
     rw (z, sub-zero w, div-one x) at e
 
 pub loop-k-init : goal.loop-k-init
-loop-k-init c = (search rules, refl, none _ _ _)
+loop-k-init c = (search rules, none _ _ _)
 
 pub loop-k-preserved : goal.loop-k-preserved
 loop-k-preserved c =
-    (search rules, c.put_byte.ensures.same_buffer ∙ c.loop-k.invariant.1, more _ _ _ _ _ _ _ _ (search rules) c.loop-k.invariant.0 c.loop-k.invariant.2 c.hex_digit.ensures c.ascii.ensures c.put_byte.ensures.put)
+    (search rules, more _ _ _ _ _ _ _ _ (search rules) c.loop-k.invariant.0 c.loop-k.invariant.1 c.hex_digit.ensures c.ascii.ensures c.byte_at-next.ensures)
 
-pub returns-clause-put : goal.returns-clause-put
-returns-clause-put c = all _ _ _ _ _ (search rules) c.loop-k.invariant.2
+pub returns : goal.returns
+returns c = all _ _ _ _ _ (search rules) c.loop-k.invariant.1

@@ -5,7 +5,7 @@ use borrow.Author.Tests.{lt-ltb, le-ltb}
 use Rattle.text.specs.Page.{Page, with_byte, written}
 use Rattle.text.specs.Digits.{glyph, number}
 use Rattle.text.proofs.Pages.{written_byte}
-use Rattle.text.proofs.Page.+put_number.Goals as goal
+use Rattle.text.proofs.+number_at.Goals as goal
 
 -- no digit, one digit, and one more
 none : (p : Page) (b m n : ℕ) → m ≡ 0 → p ≡ written p (number b m n)
@@ -25,12 +25,11 @@ more p q r b (suc m) n g h l e f u =
     let v : q ≡ written p (number b m (n / b)) = rw (sub-one (suc m)) at e in
     rw (le-ltb n b l, written_byte, ← f, ← v) u
 
-pub returns-then-most-eq0-clause-put : goal.returns-then-most-eq0-clause-put
-returns-then-most-eq0-clause-put t c = none _ _ _ _ (search rules)
+pub returns-then-most-eq0 : goal.returns-then-most-eq0
+returns-then-most-eq0 t c = none _ _ _ _ (search rules)
 
-pub returns-then-n-base-clause-put : goal.returns-then-n-base-clause-put
-returns-then-n-base-clause-put t c = one _ _ _ _ _ _ (search rules) (search rules) c.ascii.ensures c.put_byte.ensures.put
+pub returns-then-n-base : goal.returns-then-n-base
+returns-then-n-base t c = one _ _ _ _ _ _ (search rules) (search rules) c.ascii.ensures c.byte_at.ensures
 
-pub returns-else-n-base-clause-put : goal.returns-else-n-base-clause-put
-returns-else-n-base-clause-put t c =
-    more _ _ _ _ _ _ _ (search rules) (search rules) c.put_number.ensures.put c.ascii-else-n-base.ensures c.put_byte-else-n-base.ensures.put
+pub returns : goal.returns
+returns t c = more _ _ _ _ _ _ _ (search rules) (search rules) c.number_at-next.ensures c.ascii-2.ensures c.byte_at-2.ensures

@@ -5,7 +5,7 @@ use lib.ListN.{get_or}
 use lib.Seq.{take-suc, take_all}
 use Rattle.text.specs.Page.{Page, with_byte, written}
 use Rattle.text.proofs.Pages.{written_byte}
-use Rattle.text.proofs.Page.put.Goals as goal
+use Rattle.text.proofs.first_bytes_at.Goals as goal
 
 -- one more byte of s
 more : (p q r : Page) (s : List ℕ) (i : ℕ) → i < length s → q ≡ written p (take i s) → r ≡ with_byte q (get_or s i 0)
@@ -18,11 +18,10 @@ all p q s i h e = e ∙ ap (written p) (take_all i s h)
 
 pub loop-b-init : goal.loop-b-init
 unfolding written
-loop-b-init c = (refl, refl)
+loop-b-init c = refl
 
 pub loop-b-preserved : goal.loop-b-preserved
-loop-b-preserved c =
-    (c.put_byte.ensures.same_buffer ∙ c.loop-b.invariant.0, more _ _ _ _ _ (search rules) c.loop-b.invariant.1 c.put_byte.ensures.put)
+loop-b-preserved c = more _ _ _ _ _ (search rules) c.loop-b.invariant c.byte_at-next.ensures
 
-pub returns-clause-put : goal.returns-clause-put
-returns-clause-put c = all _ _ _ _ (search rules) c.loop-b.invariant.1
+pub returns : goal.returns
+returns c = all _ _ _ _ (search rules) c.loop-b.invariant
