@@ -35,18 +35,18 @@ struct Room {
 }
 
 // The name of a type, by its number.
-fn type_name(number: u8) -> &'static [u8] {
+fn put_name(page: &mut Page, number: u8) {
     match number {
-        5 => b"branch",
-        8 => b"indirect call",
-        9 => b"direct call",
-        10 => b"indirect jump",
-        11 => b"direct jump",
-        12 => b"co-routine swap",
-        13 => b"function return",
-        14 => b"other indirect jump",
-        15 => b"other direct jump",
-        _ => b"none",
+        5 => page.put(b"branch"),
+        8 => page.put(b"indirect call"),
+        9 => page.put(b"direct call"),
+        10 => page.put(b"indirect jump"),
+        11 => page.put(b"direct jump"),
+        12 => page.put(b"co-routine swap"),
+        13 => page.put(b"function return"),
+        14 => page.put(b"other indirect jump"),
+        15 => page.put(b"other direct jump"),
+        _ => page.put(b"none"),
     }
 }
 
@@ -55,7 +55,7 @@ fn put_line(page: &mut Page, word: u32, number: u8) {
     page.put_byte(b' ');
     page.put_decimal(u64::from(number));
     page.put_byte(b' ');
-    page.put(type_name(number));
+    put_name(page, number);
     page.put_byte(b'\n');
 }
 
@@ -73,8 +73,8 @@ fn take_words(input: &[u8], words: &mut [u32]) -> usize
 // Prints the lines of words with their types, or says why they could not be written.
 fn print_lines(rt: &impl Print, words: &[u32], types: &[u8], out: &mut [u8]) -> io::Result<()> {
     let mut page = Page::new(out);
-    for (word, number) in words.iter().zip(types) {
-        put_line(&mut page, *word, *number);
+    for i in 0..words.len().min(types.len()) {
+        put_line(&mut page, words[i], types[i]);
         if page.text().len() > LAST_START {
             rt.write_all(page.text())?;
             page.clear();
@@ -150,13 +150,14 @@ fn read_task(rt: &(impl Env + Complain)) -> Option<Task> {
     for i in 1..console::arg_count(rt) {
         let mut buffer = [0u8; LONGEST_NAME];
         let length = console::arg(rt, i, &mut buffer).unwrap_or(0);
-        match text::before(&buffer, length) {
-            b"--zc" => zc = true,
-            b"--help" => return Some(Task::Usage),
-            unknown => {
-                tell_unknown(rt, unknown);
-                return None;
-            }
+        let argument = text::before(&buffer, length);
+        if text::is_same(argument, b"--zc") {
+            zc = true;
+        } else if text::is_same(argument, b"--help") {
+            return Some(Task::Usage);
+        } else {
+            tell_unknown(rt, argument);
+            return None;
         }
     }
     Some(Task::Print { zc })
