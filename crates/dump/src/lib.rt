@@ -28,9 +28,8 @@ pub enum Rejection {
     Misfit(usize, Reason),
 }
 
-// Checks entries, three words each in logical order, against the code from base on. The switch zc says whether the machine
-// has Zcmp and Zcmt. Refused are 6, a length that is no multiple of three, and 11, an odd base or an end past 2^64, in this
-// order.
+// Checks entries, three words each in logical order, against the code from base on. The switch zc says whether the machine has Zcmp
+// and Zcmt. Refused are 6, a length that is no multiple of three, and 11, an odd base or an end past 2^64, in this order.
 #[tactic(auto, using(std::proofs::lemmas::Bool::Decides::nat_tests), unfolding(crate::specs::Checks::check_of))]
 pub fn check(code: &[u8], base: u64, entries: &[u64], zc: bool) -> Result<(), Rejection>
     ensures { result ≡ check_of code.now base entries.now zc }
