@@ -1,16 +1,16 @@
 // The line of a check on standard output.
 use console::Complain;
-use dump::{Reason, Refusal, Rejection};
+use dump::{Reason, Rejection};
 use history::put_path;
 use text::Page;
 
 // Room for the longest line.
 const LONGEST: usize = 256;
 
-fn refusal_words(refusal: Refusal) -> &'static [u8] {
-    match refusal {
-        Refusal::Length => b"refused: not three words to an entry",
-        Refusal::Placement => b"refused: odd base or an end past 2^64",
+fn refusal_words(number: u64) -> &'static [u8] {
+    match number {
+        6 => b"refused: not three words to an entry",
+        _ => b"refused: odd base or an end past 2^64",
     }
 }
 
@@ -39,7 +39,7 @@ pub(crate) fn print(rt: &(impl Print + Complain), answer: Result<(), Rejection>,
     let mut line = Page::new(&mut buffer);
     match answer {
         Ok(()) => line.put(b"accepted"),
-        Err(Rejection::Refused(refusal)) => line.put(refusal_words(refusal)),
+        Err(Rejection::Refused(number)) => line.put(refusal_words(number)),
         Err(Rejection::Misfit(i, reason)) => put_misfit(&mut line, words, i, reason),
     }
     line.put_byte(b'\n');

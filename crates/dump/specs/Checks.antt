@@ -8,8 +8,6 @@ use Rattle.classifier.specs.Transfers.{transfer_of, type_of}
 use Rattle.dump.specs.Offsets.{J·offset, B·offset, CJ·offset, CB·offset}
 use Rattle.dump.specs.declared.Reason.{Reason}
 use Rattle.dump.specs.declared.Reason.TheVariants.{SourceOutside, CutOff, TypeUnlike, TargetWrong}
-use Rattle.dump.specs.declared.Refusal.{Refusal}
-use Rattle.dump.specs.declared.Refusal.TheVariants.{Length, Placement}
 use Rattle.dump.specs.declared.Rejection.{Rejection}
 use Rattle.dump.specs.declared.Rejection.TheVariants.{Refused, Misfit}
 
@@ -20,13 +18,8 @@ reason_number CutOff = 2
 reason_number TypeUnlike = 3
 reason_number TargetWrong = 4
 
--- the papers' numbers of the refusals
-abbrev pub refusal_number : Refusal → ℕ
-refusal_number Length = 6
-refusal_number Placement = 11
-
 abbrev pub rejection_number : Rejection → ℕ
-rejection_number (Refused r) = refusal_number r
+rejection_number (Refused n) = n
 rejection_number (Misfit i r) = reason_number r
 
 -- what a check answers: that the dump is accepted, or why not
@@ -138,5 +131,5 @@ is_placed base size = base % 2 == 0 && nat_le (base + size) (2 ^ 64)
 unfoldable pub check_of : List ℕ → ℕ → List ℕ → Bool → Checked
 check_of code base entries zc =
     if length entries % 3 == 0
-    then (if is_placed base (length code) then checked_from code base zc entries 0 (length entries / 3) else Err (Refused Placement))
-    else Err (Refused Length)
+    then (if is_placed base (length code) then checked_from code base zc entries 0 (length entries / 3) else Err (Refused 11))
+    else Err (Refused 6)

@@ -1,5 +1,5 @@
 -- What `check` promises holds. Assumes nothing.
-use mathlib.Core.Path.{◌≡◌, refl, sym, subst, ◌∙◌}
+use mathlib.Core.Path.{◌≡◌, refl, sym, ap, ◌∙◌}
 use mathlib.Core.Bool.{Bool, true, false, ◌&&◌}
 use mathlib.Core.List.{List}
 use mathlib.Core.Logic.{◌⊎◌, inl, inr, ⊎_elim, ◌↔◌}
@@ -15,10 +15,8 @@ use Rattle.std.specs.Prelude.{Ok, Err}
 use Rattle.dump.specs.Checks.{Checked, reason_number, verdict_of, verdict_at, checked_from, is_placed, check_of}
 use Rattle.dump_demands.specs.Fits as fits
 use Rattle.dump_demands.specs.Fits.{Firmware, end, entry, Valid}
-use Rattle.dump_demands.specs.Promise.{Promise, IsRefused, FitsOrBreaks, OnlyCheck, checked, Misplaced, NoMultiple, Looked, AllFit, First}
+use Rattle.dump_demands.specs.Promise.{Promise, FitsOrBreaks, OnlyCheck, checked, Misplaced, NoMultiple, Looked, AllFit, First}
 use Rattle.dump.specs.declared.Reason.{Reason}
-use Rattle.dump.specs.declared.Refusal.{Refusal}
-use Rattle.dump.specs.declared.Refusal.TheVariants.{Length, Placement}
 use Rattle.dump.specs.declared.Rejection.TheVariants.{Refused, Misfit}
 use Rattle.dump_demands.proofs.Scans.{all_fit, accepts, no_refusal, first_misfit, misfits}
 use Rattle.dump_demands.proofs.Verdicts.{verdict, exactly_fits, exactly_first, unbroken, unbroken_if}
@@ -27,8 +25,11 @@ use Rattle.dump_demands.proofs.Verdicts.{verdict, exactly_fits, exactly_first, u
 apart : {T E : Type 0} {x : T} {e : E} → Ok x ≡ Err e → ⊥
 apart h = cc
 
-not_both : {x : Refusal} {i : ℕ} {r : Reason} → ◌≡◌ {A = Checked} (Err (Refused x)) (Err (Misfit i r)) → ⊥
+not_both : {n i : ℕ} {r : Reason} → ◌≡◌ {A = Checked} (Err (Refused n)) (Err (Misfit i r)) → ⊥
 not_both h = cc
+
+refused_number : {m n : ℕ} → ◌≡◌ {A = Checked} (Err (Refused m)) (Err (Refused n)) → m ≡ n
+refused_number h = cc
 
 module _ (f : Firmware) (ws : List ℕ) where
   module _ (i : ℕ) where
@@ -86,11 +87,11 @@ module _ (f : Firmware) (ws : List ℕ) where
       by_end e (inr h) = inr (λ m. ⊎_elim (λ o. absurd (eqb-false (f.base % 2) 1 e o)) (λ l. absurd (omega arith)) m)
 
   -- the answer in each case
-  is_no_multiple : NoMultiple ws → check_of f.code f.base ws f.zc ≡ Err (Refused Length)
+  is_no_multiple : NoMultiple ws → check_of f.code f.base ws f.zc ≡ Err (Refused 6)
   unfolding check_of
   is_no_multiple h = simp (ne_eqb (length ws % 3) 0 h)
 
-  is_misplaced : length ws % 3 ≡ 0 → Misplaced f → check_of f.code f.base ws f.zc ≡ Err (Refused Placement)
+  is_misplaced : length ws % 3 ≡ 0 → Misplaced f → check_of f.code f.base ws f.zc ≡ Err (Refused 11)
   unfolding check_of
   is_misplaced e m = simp (e, misplaced m)
 
@@ -131,26 +132,23 @@ module _ (f : Firmware) (ws : List ℕ) where
   )
 
   -- what a refusal stands for
-  refusals : (n : ℕ) → IsRefused n (check_of f.code f.base ws f.zc) → (NoMultiple ws × (n ≡ 6)) ⊎ ((length ws % 3 ≡ 0) × Misplaced f × (n ≡ 11))
+  refusals : (n : ℕ) → check_of f.code f.base ws f.zc ≡ Err (Refused n) → (NoMultiple ws × (n ≡ 6)) ⊎ ((length ws % 3 ≡ 0) × Misplaced f × (n ≡ 11))
   refusals n h =
       ⊎_elim
       (λ e.
-      ⊎_elim (λ m. inr (e, m, sym (subst (IsRefused n) (is_misplaced e m) h)))
-      (λ p. absurd (no_refusal _ _ _ _ (length ws / 3) 0 n (subst (IsRefused n) (is_looked e p) h)))
+      ⊎_elim (λ m. inr (e, m, sym (refused_number (sym (is_misplaced e m) ∙ h))))
+      (λ p. absurd (no_refusal _ _ _ _ (length ws / 3) 0 n (sym (is_looked e p) ∙ h)))
       either)
-      (λ e. inl (eqb-false _ 0 e, sym (subst (IsRefused n) (is_no_multiple (eqb-false _ 0 e)) h)))
+      (λ e. inl (eqb-false _ 0 e, sym (refused_number (sym (is_no_multiple (eqb-false _ 0 e)) ∙ h))))
       (known (length ws % 3) 0)
 
-  six : IsRefused 6 (check_of f.code f.base ws f.zc) ↔ NoMultiple ws
-  six = (
-    (λ h. ⊎_elim (λ p. p.0) (λ p. absurd (omega (arith, p.2))) (refusals 6 h)),
-    (λ h. subst (IsRefused 6) (sym (is_no_multiple h)) refl),
-  )
+  six : check_of f.code f.base ws f.zc ≡ Err (Refused 6) ↔ NoMultiple ws
+  six = ((λ h. ⊎_elim (λ p. p.0) (λ p. absurd (omega (arith, p.2))) (refusals 6 h)), is_no_multiple)
 
-  eleven : IsRefused 11 (check_of f.code f.base ws f.zc) ↔ ((length ws % 3 ≡ 0) × Misplaced f)
+  eleven : check_of f.code f.base ws f.zc ≡ Err (Refused 11) ↔ ((length ws % 3 ≡ 0) × Misplaced f)
   eleven = (
     (λ h. ⊎_elim (λ p. absurd (omega (arith, p.1))) (λ p. (p.0, p.1)) (refusals 11 h)),
-    (λ p. subst (IsRefused 11) (sym (is_misplaced p.0 p.1)) refl),
+    (λ p. is_misplaced p.0 p.1),
   )
 
 meets : Promise checked
@@ -174,7 +172,9 @@ promise = record { meets = meets; only = only }
       where
         go : (c : Checked) → check f ws ≡ c → check f ws ≡ checked f ws
         go (Ok u) h = h ∙ sym ((meets.accepted f ws).1 ((p.accepted f ws).0 h))
-        go (Err (Refused Length)) h = h ∙ sym (is_no_multiple f ws ((p.six f ws).0 (subst (IsRefused 6) (sym h) refl)))
-        go (Err (Refused Placement)) h =
-            let q = (p.eleven f ws).0 (subst (IsRefused 11) (sym h) refl) in h ∙ sym (is_misplaced f ws q.0 q.1)
+        go (Err (Refused n)) h =
+            ⊎_elim
+            (λ e. let q : check f ws ≡ Err (Refused 6) = h ∙ ap (λ (k : ℕ). Err (Refused k)) e in q ∙ sym ((meets.six f ws).1 ((p.six f ws).0 q)))
+            (λ e. let q : check f ws ≡ Err (Refused 11) = h ∙ ap (λ (k : ℕ). Err (Refused k)) e in q ∙ sym ((meets.eleven f ws).1 ((p.eleven f ws).0 q)))
+            (p.refusals f ws n h)
         go (Err (Misfit i r)) h = h ∙ sym ((meets.misfit f ws i r).1 ((p.misfit f ws i r).0 h))

@@ -10,17 +10,16 @@ use Rattle.bits.proofs.Cases.{known}
 use Rattle.std.specs.Prelude.{Ok, Err}
 use Rattle.dump.specs.Checks.{Checked, Verdict, verdict_at, or_else, checked_from}
 use Rattle.dump.specs.declared.Reason.{Reason}
-use Rattle.dump.specs.declared.Rejection.TheVariants.{Misfit}
-use Rattle.dump_demands.specs.Promise.{IsRefused}
+use Rattle.dump.specs.declared.Rejection.TheVariants.{Refused, Misfit}
 
 -- an answer that goes by one entry first
 or_accepted : (i : ℕ) (v : Verdict) (rest : Checked) → or_else i v rest ≡ Ok tt → (v ≡ Ok tt) × (rest ≡ Ok tt)
 or_accepted i (Ok u) rest h = (refl, h)
 or_accepted i (Err r) rest h = absurd (cc)
 
-or_refused : (i : ℕ) (v : Verdict) (rest : Checked) (n : ℕ) → IsRefused n (or_else i v rest) → IsRefused n rest
+or_refused : (i : ℕ) (v : Verdict) (rest : Checked) (n : ℕ) → or_else i v rest ≡ Err (Refused n) → rest ≡ Err (Refused n)
 or_refused i (Ok u) rest n h = h
-or_refused i (Err r) rest n h = absurd h
+or_refused i (Err r) rest n h = absurd (cc)
 
 or_misfit : (i : ℕ) (v : Verdict) (rest : Checked) (k : ℕ) (r : Reason) → or_else i v rest ≡ Err (Misfit k r)
     → ((v ≡ Ok tt) × (rest ≡ Err (Misfit k r))) ⊎ ((v ≡ Err r) × (i ≡ k))
@@ -41,9 +40,9 @@ module _ (code : List ℕ) (base : ℕ) (zc : Bool) (entries : List ℕ) where
   accepts zero i h = refl
   accepts (suc n) i h = rw (h i (omega arith) (omega arith)) (accepts n (i + 1) (λ j l m. h j (omega arith) (omega arith)))
 
-  pub no_refusal : (n i k : ℕ) → IsRefused k (checked_from code base zc entries i n) → ⊥
+  pub no_refusal : (n i k : ℕ) → checked_from code base zc entries i n ≡ Err (Refused k) → ⊥
   unfolding checked_from
-  no_refusal zero i k h = h
+  no_refusal zero i k h = cc
   no_refusal (suc n) i k h = no_refusal n (i + 1) k (or_refused i (verdict_at code base zc entries i) (checked_from code base zc entries (i + 1) n) k h)
 
   -- and entry k is the first misfit exactly if those before it fit and it does not

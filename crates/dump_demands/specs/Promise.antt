@@ -4,7 +4,6 @@ use Rattle.std.specs.Prelude.{ℕ, ◌*◌, ◌/◌, ◌%◌, ◌^◌, ◌<◌, 
 use Rattle.dump.specs.Checks.{check_of, reason_number}
 use Rattle.dump_demands.specs.Fits.{Firmware, Entry, end, entry, Valid, Fits, Breaks}
 use Rattle.dump.specs.declared.Reason.{Reason}
-use Rattle.dump.specs.declared.Refusal.TheVariants.{Length, Placement}
 use Rattle.dump.specs.declared.Rejection.{Rejection}
 use Rattle.dump.specs.declared.Rejection.TheVariants.{Refused, Misfit}
 
@@ -31,22 +30,15 @@ First f e n = Breaks f e n × ((m : ℕ) → m < n → Breaks f e m → ⊥)
 abbrev pub Checked : Type 0
 Checked = Result (Unit {0}) Rejection
 
--- the answer is a refusal with the number n: 6 of a dump's length, 11 of where the image lies
-abbrev pub IsRefused : ℕ → Checked → Type 0
-IsRefused n (Ok u) = ⊥
-IsRefused n (Err (Refused Length)) = 6 ≡ n
-IsRefused n (Err (Refused Placement)) = 11 ≡ n
-IsRefused n (Err (Misfit i r)) = ⊥
-
 -- what a check answers, of any check: a function from firmware and the words of a dump
 pub record Promise (check : Firmware → List ℕ → Checked) : Type 0 where
   pub accepted : (f : Firmware) (ws : List ℕ) → check f ws ≡ Ok tt ↔ (Looked f ws × AllFit f ws (length ws / 3))
   pub misfit : (f : Firmware) (ws : List ℕ) (i : ℕ) (r : Reason)
       → check f ws ≡ Err (Misfit i r)
       ↔ (Looked f ws × (3 * i < length ws) × AllFit f ws i × Valid (entry ws i) × First f (entry ws i) (reason_number r))
-  pub six : (f : Firmware) (ws : List ℕ) → IsRefused 6 (check f ws) ↔ NoMultiple ws
-  pub eleven : (f : Firmware) (ws : List ℕ) → IsRefused 11 (check f ws) ↔ ((length ws % 3 ≡ 0) × Misplaced f)
-  pub refusals : (f : Firmware) (ws : List ℕ) (n : ℕ) → IsRefused n (check f ws) → (n ≡ 6) ⊎ (n ≡ 11)
+  pub six : (f : Firmware) (ws : List ℕ) → check f ws ≡ Err (Refused 6) ↔ NoMultiple ws
+  pub eleven : (f : Firmware) (ws : List ℕ) → check f ws ≡ Err (Refused 11) ↔ ((length ws % 3 ≡ 0) × Misplaced f)
+  pub refusals : (f : Firmware) (ws : List ℕ) (n : ℕ) → check f ws ≡ Err (Refused n) → (n ≡ 6) ⊎ (n ≡ 11)
 
 -- an entry fits exactly if it breaks nothing
 abbrev pub FitsOrBreaks : Type 0

@@ -1,7 +1,7 @@
 // Answers counted, and a digest of them all.
 ghost use Rattle.std.specs.Prelude.{◌<◌};
 
-use dump::{Refusal, Rejection};
+use dump::Rejection;
 use test_support::{count, digest};
 
 // How many answers there are: accepted, four reasons and two refusals.
@@ -13,15 +13,14 @@ pub(crate) struct Tally {
     pub(crate) digest: u64,
 }
 
-// The place of an answer among the counts.
-fn place(answer: Result<(), Rejection>) -> usize
+// The place of an answer's number among the counts.
+fn place(number: u64) -> usize
     ensures { result < 7 }
 {
-    match answer {
-        Ok(()) => 0,
-        Err(Rejection::Misfit(_, reason)) => 1 + reason as usize,
-        Err(Rejection::Refused(Refusal::Length)) => 5,
-        Err(Rejection::Refused(Refusal::Placement)) => 6,
+    match number {
+        0..=4 => number as usize,
+        6 => 5,
+        _ => 6,
     }
 }
 
@@ -45,8 +44,9 @@ impl Tally {
     // One check, and its answer among the others.
     pub(crate) fn check(&mut self, code: &[u8], base: u64, entries: &[u64], zc: bool) {
         let answer = dump::check(code, base, entries, zc);
-        count(&mut self.counts[place(answer)], true);
-        let with_number = digest(self.digest, dump::number(answer));
+        let number = dump::number(answer);
+        count(&mut self.counts[place(number)], true);
+        let with_number = digest(self.digest, number);
         self.digest = digest(with_number, index(answer));
     }
 }
