@@ -18,6 +18,7 @@ use sweep_support::digests::{digest_answer, digest_entry, digest_registers};
 use sweep_support::lines::{put_counts, put_word};
 use test_support::{Random, count_at, digest};
 use text::Page;
+use trace::codes::operation_of;
 
 // What was seen, the words to draw and the last entry in focus.
 #[derive(Drop)]
@@ -38,12 +39,8 @@ const MODES: [(Mode, &[u8]); 5] = [
     (Mode::VS, b"mode VS\n"),
 ];
 
-const OPERATIONS: [Operation; 4] = [
-    Operation::Read,
-    Operation::Write,
-    Operation::Set,
-    Operation::Clear,
-];
+// How many operations there are.
+const OPERATIONS: u64 = 4;
 
 // Every listed number and its neighbours, the ends of the ranges, and one that is listed but for a
 // high bit.
@@ -219,8 +216,8 @@ impl Run {
     // All operations on all numbers; then SCTRCLR and the host's event, with the last entry.
     fn events(&mut self, r: Registers) {
         for number in NUMBERS {
-            for operation in OPERATIONS {
-                self.access(r, number, operation);
+            for code in 0..OPERATIONS {
+                self.access(r, number, operation_of(code));
             }
         }
         let enables = Enables {

@@ -2,6 +2,7 @@
 use crate::problems;
 use console::{Complain, LONGEST_NAME};
 use std::env::Env;
+use text::is_same;
 
 // What the arguments ask for: how the program is used, or a check of the operands from argument `first` on,
 // with Zcmp and Zcmt or without them.
@@ -42,14 +43,15 @@ pub(crate) fn read_request(rt: &(impl Env + Complain), count: usize) -> Option<R
     for i in 1..count {
         let mut buffer = [0u8; LONGEST_NAME];
         let argument = read(rt, i, &mut buffer)?;
-        match argument {
-            b"--zc" => zc = true,
-            b"--help" => return Some(Request::Usage),
-            [b'-', ..] => {
-                problems::unknown_flag(rt, argument);
-                return None;
-            }
-            _ => return Some(Request::Check { zc, first: i }),
+        if is_same(argument, b"--zc") {
+            zc = true;
+        } else if is_same(argument, b"--help") {
+            return Some(Request::Usage);
+        } else if argument.starts_with(b"-") {
+            problems::unknown_flag(rt, argument);
+            return None;
+        } else {
+            return Some(Request::Check { zc, first: i });
         }
     }
     Some(Request::Check { zc, first: count })

@@ -1,6 +1,8 @@
 // The base: a number below 2^64, in hex behind 0x and otherwise in decimal.
 ghost use Rattle.std.specs.Prelude.{◌≤◌};
 
+use text::is_same;
+
 // The number with one more digit after it.
 fn with_digit(number: u64, digit: u8, radix: u32) -> Option<u64>
     requires { (2 ≤ radix) × (radix ≤ 36) }
@@ -24,8 +26,8 @@ fn from_digits(digits: &[u8], radix: u32) -> Option<u64>
 }
 
 pub(crate) fn number(text: &[u8]) -> Option<u64> {
-    match text {
-        [b'0', b'x', digits @ ..] => from_digits(digits, 16),
+    match text.split_at_checked(2) {
+        Some((mark, digits)) if is_same(mark, b"0x") => from_digits(digits, 16),
         _ => from_digits(text, 10),
     }
 }

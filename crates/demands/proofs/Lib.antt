@@ -26,3 +26,4 @@ pub mod Counted
 pub mod Constant
 pub mod Useless
 pub mod CodeRuns
+pub mod Kept

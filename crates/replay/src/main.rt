@@ -16,6 +16,7 @@ use std::env::Env;
 use std::fs::Files;
 use std::io;
 use std::ops::Range;
+use text::is_same;
 
 // A flag before the traces.
 enum Flag {
@@ -28,13 +29,18 @@ enum Flag {
 
 impl Flag {
     fn of(argument: &[u8]) -> Option<Flag> {
-        match argument {
-            b"--answers" => Some(Flag::Answers),
-            b"--state" => Some(Flag::State),
-            b"--zc" => Some(Flag::Zc),
-            b"--dump" => Some(Flag::Dump),
-            b"--help" => Some(Flag::Help),
-            _ => None,
+        if is_same(argument, b"--answers") {
+            Some(Flag::Answers)
+        } else if is_same(argument, b"--state") {
+            Some(Flag::State)
+        } else if is_same(argument, b"--zc") {
+            Some(Flag::Zc)
+        } else if is_same(argument, b"--dump") {
+            Some(Flag::Dump)
+        } else if is_same(argument, b"--help") {
+            Some(Flag::Help)
+        } else {
+            None
         }
     }
 }

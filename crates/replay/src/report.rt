@@ -1,12 +1,16 @@
 // What a trace left behind: counts, registers, the history and the entries, a line each.
+ghost use Rattle.std.specs.Prelude.{◌<◌};
+ghost use Rattle.recorder.specs.Entries.{entries};
+
 use crate::answers::{Counts, NUMBERS, VALUES};
 use crate::output::Output;
 use console::Complain;
-use history::put_path;
+use history::{put_line, put_path};
 use machine::depths::{depth, physical};
-use machine::{Entry, Mode, Registers};
+use machine::{Buffer, Entry, Registers};
 use recorder::{ENTRIES, State};
 use text::Page;
+use trace::codes::mode_code;
 use transfers::counts::decoded;
 
 const NUMBER_NAMES: [&[u8]; NUMBERS] = [
@@ -55,16 +59,6 @@ pub(crate) fn put_counts<R: Print + Complain>(
     put_occurred(out, &VALUE_NAMES, &counts.values);
 }
 
-fn mode_name(m: Mode) -> &'static [u8] {
-    match m {
-        Mode::U => b"U",
-        Mode::S => b"S",
-        Mode::M => b"M",
-        Mode::VU => b"VU",
-        Mode::VS => b"VS",
-    }
-}
-
 // The registers but the mode, and the switch, in the order of their lines.
 fn register_words(r: Registers) -> [(&'static [u8], u64); REGISTERS] {
     let b = r.buffer;
@@ -84,8 +78,11 @@ fn register_words(r: Registers) -> [(&'static [u8], u64); REGISTERS] {
 }
 
 pub(crate) fn put_registers<R: Print + Complain>(out: &mut Output<'_, R>, r: Registers) {
-    out.page.put(b"mode ");
-    out.page.put(mode_name(r.mode));
+    put_line(
+        &mut out.page,
+        b"mode U\nmode S\nmode M\nmode VU\nmode VS",
+        mode_code(r.mode),
+    );
     out.end_line();
     for (name, word) in register_words(r) {
         out.page.put(name);
@@ -114,20 +111,33 @@ fn put_transfer(page: &mut Page, i: u64, e: Entry) {
     }
 }
 
+// The index of logical entry i.
+#[tactic(auto, using(recorder::proofs::Laws::physical_lt))]
+fn index_of(b: Buffer, i: u64) -> usize
+    ensures { result < entries }
+{
+    physical(b.code, b.wrptr, i) as usize
+}
+
+// Physical entry i.
+fn physical_entry(s: &State, i: usize) -> Entry
+    requires { i < entries }
+{
+    s.entries.entry(i).unwrap()
+}
+
 // Logical entry i.
-fn logical_entry(s: &State, i: u64) -> Option<Entry> {
-    let b = s.registers.buffer;
-    s.entries.entry(physical(b.code, b.wrptr, i) as usize)
+fn logical_entry(s: &State, i: u64) -> Entry {
+    physical_entry(s, index_of(s.registers.buffer, i))
 }
 
 // The valid entries, newest first.
 pub(crate) fn put_history<R: Print + Complain>(out: &mut Output<'_, R>, s: &State) {
     for i in 0..depth(s.registers.buffer.code) {
-        if let Some(e) = logical_entry(s, i) {
-            if bits::bit(e.ctrsource, 0) {
-                put_transfer(&mut out.page, i, e);
-                out.end_line();
-            }
+        let e = logical_entry(s, i);
+        if bits::bit(e.ctrsource, 0) {
+            put_transfer(&mut out.page, i, e);
+            out.end_line();
         }
     }
 }
@@ -135,10 +145,9 @@ pub(crate) fn put_history<R: Print + Complain>(out: &mut Output<'_, R>, s: &Stat
 // All entries up to the depth as a dump, newest first: eight bytes a word, the lowest first.
 pub(crate) fn put_dump(page: &mut Page, s: &State) {
     for i in 0..depth(s.registers.buffer.code) {
-        if let Some(e) = logical_entry(s, i) {
-            for word in [e.ctrsource, e.ctrtarget, e.ctrdata] {
-                page.put(&word.to_le_bytes());
-            }
+        let e = logical_entry(s, i);
+        for word in [e.ctrsource, e.ctrtarget, e.ctrdata] {
+            page.put(&word.to_le_bytes());
         }
     }
 }
@@ -146,14 +155,13 @@ pub(crate) fn put_dump(page: &mut Page, s: &State) {
 // All physical entries: index and words.
 pub(crate) fn put_entries<R: Print + Complain>(out: &mut Output<'_, R>, s: &State) {
     for i in 0..ENTRIES {
-        if let Some(e) = s.entries.entry(i) {
-            put_index(&mut out.page, i as u64);
-            out.page.put_short_hex(e.ctrsource);
-            out.page.put_byte(b' ');
-            out.page.put_short_hex(e.ctrtarget);
-            out.page.put_byte(b' ');
-            out.page.put_short_hex(e.ctrdata);
-            out.end_line();
-        }
+        let e = physical_entry(s, i);
+        put_index(&mut out.page, i as u64);
+        out.page.put_short_hex(e.ctrsource);
+        out.page.put_byte(b' ');
+        out.page.put_short_hex(e.ctrtarget);
+        out.page.put_byte(b' ');
+        out.page.put_short_hex(e.ctrdata);
+        out.end_line();
     }
 }
