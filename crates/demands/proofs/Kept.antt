@@ -3,11 +3,16 @@ use mathlib.Core.Path.{◌≡◌, refl, sym, ap, ◌∙◌}
 use mathlib.Core.Bool.{Bool, true, and-false}
 use mathlib.Core.List.{List, [], ◌∷◌}
 use mathlib.Core.Logic.{◌≢◌}
-use Prim.Native.Nat.{ℕ, zero, suc, ◌+◌, ◌≤◌, ◌<◌, min}
+use Prim.Native.Nat.{ℕ, zero, suc, ◌+◌, ◌-◌, ◌*◌, ◌/◌, ◌%◌, ◌^◌, ◌≤◌, ◌<◌, min}
+use native.Mathlib.Nat.{mod-eq_of_lt, div-eq_of_lt, div-le_self}
 use native.Mathlib.Numerals.{add-one}
 use native.Mathlib.Omega.{arith}
+use lib.Bits.{bit_and, and_mask}
 use lib.ListN.{length, take, get_or, set}
+use lib.Pow.{pow_pos, pow_mono, pow-lt}
 use borrow.Author.Tests.{ne_eqb, lt-leb}
+use Rattle.std.proofs.Math.Nat.{one-mul}
+use Rattle.bits.specs.Words.{field_at}
 use Rattle.machine.specs.Answers.{Verdict}
 use Rattle.machine.specs.Modes.{on_of, governing_of}
 use Rattle.machine.specs.declared.Decision.{Decision}
@@ -105,3 +110,23 @@ again zc ws ts us i t e p h l = rw (e, p, add-one i) (sym (classified_more zc i 
 -- docs/changes/05: where as many words are sorted as there are of both, all are
 pub ended : (zc : Bool) (ws ts us : List ℕ) (i : ℕ) → us ≡ classified zc (take i ws) ts → min (length ws) (length ts) ≤ i → us ≡ classified zc ws ts
 ended zc ws ts us i e h = e ∙ classified_all zc i ws ts h
+
+-- docs/DESIGN-PASS.md: fields of a word of any width; those of 64 bits are in bits/proofs/Laws. A word of m bits has nothing from bit m up
+module _ (m : ℕ) {x : ℕ} (fits : x < 2 ^ m) where
+  pub past : (n k : ℕ) → m ≤ n → 0 ≡ field_at x n k
+  past n k h =
+      let p : 2 ^ m ≤ 2 ^ n = pow_mono h in
+      let l : x < 2 ^ n = omega arith in
+      rw (div-eq_of_lt l, mod-eq_of_lt (pow_pos k))
+
+  pub whole : (n k : ℕ) → m ≤ k → x / 2 ^ n ≡ field_at x n k
+  whole n k h =
+      let p : 2 ^ m ≤ 2 ^ k = pow_mono h in
+      let l : x / 2 ^ n < 2 ^ k = omega (arith, div-le_self x (2 ^ n)) in
+      rw (mod-eq_of_lt l)
+
+-- a shift down and the mask (1 << k) - 1 are the field
+pub field_mask : (m x n k : ℕ) → k < m → bit_and (x / 2 ^ n) (1 * 2 ^ k % 2 ^ m - 1) ≡ field_at x n k
+field_mask m x n k h =
+    let l : 1 * 2 ^ k < 2 ^ m = omega (arith, pow-lt h) in
+    rw (mod-eq_of_lt l) (rw (one-mul (2 ^ k)) (and_mask (x / 2 ^ n) k))
