@@ -109,6 +109,7 @@ fn byte_at(bytes: &mut [u8], at: usize, b: u8) -> usize
 }
 
 // The bytes of s, all at once where there is room for them.
+#[tactic(auto, using(crate::proofs::Pages::in_part))]
 fn bytes_at(bytes: &mut [u8], at: usize, s: &[u8]) -> usize
     ensures { page result bytes.new ≡ written (page at bytes.old) s.now }
 {
